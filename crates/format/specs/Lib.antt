@@ -1,0 +1,9 @@
+pub mod Request
+pub mod Header
+pub mod Piece
+pub mod Message
+pub mod Reading
+pub mod Opening
+pub mod Promise
+pub mod Sealed
+pub mod Statements

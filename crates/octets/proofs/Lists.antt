@@ -1,0 +1,42 @@
+-- The list functions of the definitions are the library's, and two lists joined can be taken apart.
+use mathlib.Core.Path.{_≡_, refl, sym, ap, ap₂, _∙_}
+use mathlib.Core.List.{List, [], _∷_, _++_, reverse, reverse-append}
+use Prim.Native.Nat.{ℕ, zero, suc, _+_, _-_, _*_, _≤_, _<_}
+use lib.ListN as L
+use lib.ListN.{length}
+use lib.Seq.{take-at, drop-at}
+use Rattle.octets.specs.Bytes.{take, drop, nth, repeat, reversed}
+
+pub nth-is : (xs : List ℕ) (n : ℕ) → nth xs n ≡ L.getD xs n 0
+unfolding nth
+nth-is [] n = refl
+nth-is (x ∷ xs) zero = refl
+nth-is (x ∷ xs) (suc n) = nth-is xs n
+
+pub take-is : (n : ℕ) (xs : List ℕ) → take n xs ≡ L.take n xs
+unfolding take
+take-is zero xs = refl
+take-is (suc n) [] = refl
+take-is (suc n) (x ∷ xs) = ap (λ (ys : List ℕ). x ∷ ys) (take-is n xs)
+
+pub drop-is : (n : ℕ) (xs : List ℕ) → drop n xs ≡ L.drop n xs
+unfolding drop
+drop-is zero xs = refl
+drop-is (suc n) [] = refl
+drop-is (suc n) (x ∷ xs) = drop-is n xs
+
+pub repeat-is : (n a : ℕ) → repeat n a ≡ L.replicate n a
+unfolding repeat
+repeat-is zero a = refl
+repeat-is (suc n) a = ap (λ (ys : List ℕ). a ∷ ys) (repeat-is n a)
+
+pub reversed-is : (xs : List ℕ) → reversed xs ≡ reverse xs
+unfolding reversed
+reversed-is [] = refl
+reversed-is (x ∷ xs) = ap (λ (ys : List ℕ). ys ++ (x ∷ [])) (reversed-is xs) ∙ sym (reverse-append (x ∷ []) xs)
+
+-- two joined lists whose first parts are as long
+pub halves : {A : Type 0} (a b c d : List A) → length a ≡ length b → a ++ c ≡ b ++ d → (a ≡ b) × (c ≡ d)
+halves a b c d l e =
+    (sym (take-at a c (length a) refl) ∙ (ap (λ xs. L.take (length a) xs) e ∙ take-at b d (length a) (sym l)),
+     sym (drop-at a c (length a) refl) ∙ (ap (λ xs. L.drop (length a) xs) e ∙ drop-at b d (length a) (sym l)))

@@ -1,0 +1,118 @@
+-- Byte strings compared, and numbers in bytes: how long, that they are bytes, and that each comes back from the other.
+use mathlib.Core.Path.{_≡_, refl, sym, ap, ap₂, _∙_}
+use mathlib.Core.Bool.{Bool, true, false, _&&_}
+use mathlib.Core.List.{List, [], _∷_, _++_}
+use Prim.Native.Nat.{ℕ, zero, suc, _+_, _*_, _-_, _/_, _%_, _^_, _≤_, _<_}
+use native.Mathlib.Nat.{pow-suc, suc-mul, mul-le-mul-right, add-mul, mul-assoc, mul-comm}
+use native.Mathlib.Omega.{arith}
+use lib.Dec.{eqb, ltb}
+use lib.ListN.{length, length-append}
+use Rattle.std.proofs.shelf.Tests.{and-parts, and-from, ltb-true, lt-ltb, eqb-true, eq-eqb}
+use Rattle.octets.specs.Bytes.{bytes-eq, to-bytes, number, of-bytes, all-bytes}
+
+pub bytes-eq-true : (xs ys : List ℕ) → bytes-eq xs ys ≡ true → xs ≡ ys
+unfolding bytes-eq
+bytes-eq-true [] [] e = refl
+bytes-eq-true [] (y ∷ ys) e = cc
+bytes-eq-true (x ∷ xs) [] e = cc
+bytes-eq-true (x ∷ xs) (y ∷ ys) e =
+    let p = and-parts (eqb x y) (bytes-eq xs ys) e in
+    ap₂ (λ z zs. z ∷ zs) (eqb-true x y (p .0)) (bytes-eq-true xs ys (p .1))
+
+pub bytes-eq-refl : (xs : List ℕ) → bytes-eq xs xs ≡ true
+unfolding bytes-eq
+bytes-eq-refl [] = refl
+bytes-eq-refl (x ∷ xs) = and-from (eqb x x) (bytes-eq xs xs) (eq-eqb x x refl) (bytes-eq-refl xs)
+
+-- all bytes, in parts
+pub all-bytes-append : (xs ys : List ℕ) → all-bytes xs ≡ true → all-bytes ys ≡ true → all-bytes (xs ++ ys) ≡ true
+unfolding all-bytes
+all-bytes-append [] ys p q = q
+all-bytes-append (x ∷ xs) ys p q =
+    let a = and-parts (ltb x 256) (all-bytes xs) p in
+    and-from (ltb x 256) (all-bytes (xs ++ ys)) (a .0) (all-bytes-append xs ys (a .1) q)
+
+pub all-bytes-parts : (xs ys : List ℕ) → all-bytes (xs ++ ys) ≡ true → (all-bytes xs ≡ true) × (all-bytes ys ≡ true)
+unfolding all-bytes
+all-bytes-parts [] ys p = (refl, p)
+all-bytes-parts (x ∷ xs) ys p =
+    let a = and-parts (ltb x 256) (all-bytes (xs ++ ys)) p in
+    let b = all-bytes-parts xs ys (a .1) in
+    (and-from (ltb x 256) (all-bytes xs) (a .0) (b .0), b .1)
+
+-- a number from bytes in two parts
+pub number-append : (a : ℕ) (xs ys : List ℕ) → number a (xs ++ ys) ≡ number (number a xs) ys
+unfolding number
+number-append a [] ys = refl
+number-append a (x ∷ xs) ys = number-append (a * 256 + x) xs ys
+
+pub number-shift : (a : ℕ) (ys : List ℕ) → number a ys ≡ a * 256 ^ length ys + number 0 ys
+unfolding number
+number-shift a [] = omega arith
+number-shift a (y ∷ ys) =
+    let p : ℕ = 256 ^ length ys in
+    let e : (a * 256 + y) * p ≡ a * 256 * p + y * p = add-mul (a * 256) y p in
+    let f : a * 256 * p ≡ a * (p * 256) = mul-assoc a 256 p ∙ ap (λ k. a * k) (mul-comm 256 p) in
+    let g : a * (p * 256) ≡ a * 256 ^ suc (length ys) = ap (λ k. a * k) (sym (pow-suc 256 (length ys))) in
+    let u = number-shift (a * 256 + y) ys in
+    let v : number (0 * 256 + y) ys ≡ (0 * 256 + y) * p + number 0 ys = number-shift (0 * 256 + y) ys in
+    let w : (0 * 256 + y) * p ≡ y * p = ap (λ k. k * p) (omega arith) in
+    omega arith
+
+-- a number written has so many bytes, and comes back
+pub length-to-bytes : (k n : ℕ) → length (to-bytes k n) ≡ k
+unfolding to-bytes
+length-to-bytes zero n = refl
+length-to-bytes (suc k) n = let h = length-to-bytes k (n / 256) in length-append (to-bytes k (n / 256)) (n % 256 ∷ []) ∙ omega arith
+
+pub all-bytes-to : (k n : ℕ) → all-bytes (to-bytes k n) ≡ true
+unfolding to-bytes all-bytes
+all-bytes-to zero n = refl
+all-bytes-to (suc k) n =
+    all-bytes-append (to-bytes k (n / 256)) (n % 256 ∷ []) (all-bytes-to k (n / 256)) (and-from (ltb (n % 256) 256) true (lt-ltb (n % 256) 256 (omega arith)) refl)
+
+pub of-to-bytes : (k n : ℕ) → n < 256 ^ k → of-bytes (to-bytes k n) ≡ n
+unfolding to-bytes number
+of-to-bytes zero n h = omega arith
+of-to-bytes (suc k) n h =
+    let l : n / 256 < 256 ^ k = omega (arith, pow-suc 256 k) in
+    let e : number 0 (to-bytes k (n / 256)) ≡ n / 256 = of-to-bytes k (n / 256) l in
+    number-append 0 (to-bytes k (n / 256)) (n % 256 ∷ []) ∙ omega arith
+
+pub to-bytes-injective : (k a b : ℕ) → a < 256 ^ k → b < 256 ^ k → to-bytes k a ≡ to-bytes k b → a ≡ b
+to-bytes-injective k a b ha hb e = sym (of-to-bytes k a ha) ∙ (ap (λ xs. number 0 xs) e ∙ of-to-bytes k b hb)
+
+number-injective : (a b : ℕ) (xs ys : List ℕ) → length xs ≡ length ys → all-bytes xs ≡ true → all-bytes ys ≡ true → number a xs ≡ number b ys → (a ≡ b) × (xs ≡ ys)
+unfolding number all-bytes
+number-injective a b [] [] l p q e = (e, refl)
+number-injective a b [] (y ∷ ys) l p q e = absurd (omega arith)
+number-injective a b (x ∷ xs) [] l p q e = absurd (omega arith)
+number-injective a b (x ∷ xs) (y ∷ ys) l p q e =
+    let u = and-parts (ltb x 256) (all-bytes xs) p in
+    let v = and-parts (ltb y 256) (all-bytes ys) q in
+    let hx = ltb-true x 256 (u .0) in
+    let hy = ltb-true y 256 (v .0) in
+    let r = number-injective (a * 256 + x) (b * 256 + y) xs ys (omega arith) (u .1) (v .1) e in
+    let s : a * 256 + x ≡ b * 256 + y = r .0 in
+    let t : x ≡ y = omega arith in
+    (omega arith, ap₂ (λ z zs. z ∷ zs) t (r .1))
+
+pub of-bytes-below : (bs : List ℕ) → all-bytes bs ≡ true → of-bytes bs < 256 ^ length bs
+unfolding number all-bytes
+of-bytes-below [] p = omega arith
+of-bytes-below (x ∷ xs) p =
+    let u = and-parts (ltb x 256) (all-bytes xs) p in
+    let hx : suc x ≤ 256 = ltb-true x 256 (u .0) in
+    let q : ℕ = 256 ^ length xs in
+    let i : number 0 xs < q = of-bytes-below xs (u .1) in
+    let z : 0 * 256 + x ≡ x = omega arith in
+    let e : number (0 * 256 + x) xs ≡ x * q + number 0 xs = ap (λ y. number y xs) z ∙ number-shift x xs in
+    let m : suc x * q ≤ 256 * q = mul-le-mul-right q hx in
+    let s : suc x * q ≡ x * q + q = suc-mul x q in
+    let w : 256 ^ suc (length xs) ≡ q * 256 = pow-suc 256 (length xs) in
+    omega arith
+
+pub to-of-bytes : (k : ℕ) (bs : List ℕ) → length bs ≡ k → all-bytes bs ≡ true → to-bytes k (of-bytes bs) ≡ bs
+to-of-bytes k bs l p =
+    let h : of-bytes bs < 256 ^ k = rw (← l) (of-bytes-below bs p) in
+    number-injective 0 0 (to-bytes k (of-bytes bs)) bs (length-to-bytes k (of-bytes bs) ∙ sym l) (all-bytes-to k (of-bytes bs)) p (of-to-bytes k (of-bytes bs) h) .1

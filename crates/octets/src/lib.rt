@@ -1,0 +1,1 @@
+// Bytes and words: what every other crate stands on.
