@@ -51,7 +51,7 @@ abbrev pub next-word : List (List ℕ) → ℕ → List ℕ
 next-word rs i =
     let t : List ℕ = word-at rs 0 in
     let u : List ℕ =
-        pick (eqb (i % 8) 0) (xor-bytes (sub-bytes (rot-word t)) (rcon (i / 8 - 1) ∷ (0 ∷ (0 ∷ (0 ∷ []))))) (pick (eqb (i % 8) 4) (sub-bytes t) t) in
+    pick (eqb (i % 8) 0) (xor-bytes (sub-bytes (rot-word t)) (rcon (i / 8 - 1) ∷ (0 ∷ (0 ∷ (0 ∷ []))))) (pick (eqb (i % 8) 4) (sub-bytes t) t) in
     xor-bytes (word-at rs 7) u
 
 unfoldable pub expand-words : ℕ → ℕ → List (List ℕ) → List (List ℕ)

@@ -43,10 +43,10 @@ header-tag-right dk x = bytes-eq (seal-header dk (x .header) .tag) (x .tag)
 abbrev pub open-message : List ℕ → List ℕ → Opened
 open-message k bs =
     with-header (read-header bs) (λ x.
-        let dk : List ℕ = sealing-key k (x .header .id) in
-        pick (bytes-eq (commitment k (x .header .id)) (x .header .commitment))
-            (pick (header-tag-right dk x) (open-frames (suc (length (x .rest))) dk (x .header) 1 [] (x .rest)) (not-opened 5 0))
-            (not-opened 4 0))
+    let dk : List ℕ = sealing-key k (x .header .id) in
+    pick (bytes-eq (commitment k (x .header .id)) (x .header .commitment))
+    (pick (header-tag-right dk x) (open-frames (suc (length (x .rest))) dk (x .header) 1 [] (x .rest)) (not-opened 5 0))
+    (not-opened 4 0))
 
 -- all pieces that stand in a message, as far as it can be read, under the key that it is opened with
 unfoldable pub frames-in : ℕ → List ℕ → Header → ℕ → List ℕ → List Piece
@@ -57,5 +57,5 @@ frames-in (suc k) dk h n bs =
 abbrev pub pieces-in : List ℕ → List ℕ → List Piece
 pieces-in k bs =
     and-then (read-header bs) (λ x.
-        let dk : List ℕ = sealing-key k (x .header .id) in
-        header-piece dk (x .header) (record { ciphertext = []; tag = x .tag }) ∷ frames-in (suc (length (x .rest))) dk (x .header) 1 (x .rest))
+    let dk : List ℕ = sealing-key k (x .header .id) in
+    header-piece dk (x .header) (record { ciphertext = []; tag = x .tag }) ∷ frames-in (suc (length (x .rest))) dk (x .header) 1 (x .rest))

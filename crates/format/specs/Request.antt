@@ -65,12 +65,12 @@ end-marker = 4294967295
 abbrev pub seal-refusal : Request → ℕ
 seal-refusal r =
     pick ((eqb (length (r .key)) 32 && eqb (length (r .id)) 32) && (ltb 0 (r .frame-length) && leb (r .frame-length) end-marker))
-        (pick ((rising (r .context) && short-pairs (r .context)) && leb (2 + length (pairs-bytes (r .context))) 65535)
-            (pick ((ltb 0 (length (r .encrypted-data-keys)) && leb (length (r .encrypted-data-keys)) 65535) && short-data-keys (r .encrypted-data-keys))
-                (pick (leb (length (r .text)) (end-marker * r .frame-length) && ltb (length (r .text)) 9223372036854775808) 0 5)
-                4)
-            3)
-        2
+    (pick ((rising (r .context) && short-pairs (r .context)) && leb (2 + length (pairs-bytes (r .context))) 65535)
+    (pick ((ltb 0 (length (r .encrypted-data-keys)) && leb (length (r .encrypted-data-keys)) 65535) && short-data-keys (r .encrypted-data-keys))
+    (pick (leb (length (r .text)) (end-marker * r .frame-length) && ltb (length (r .text)) 9223372036854775808) 0 5)
+    4)
+    3)
+    2
 
 -- everything in it is bytes, and the frame length a number of 32 bits
 unfoldable pub all-bytes-pairs : List Pair → Bool

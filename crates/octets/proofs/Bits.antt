@@ -10,6 +10,15 @@ use lib.Bits.{bitAnd, bitOr, bitXor, and-step, xor-step, or-shifted-r, and-lt, x
 use lib.Pow.{pow-pos, pow-add, shr-lt, mod-pow-add, shl-shr}
 use Rattle.octets.specs.Bits.{pick, bit-and, bit-xor, pow2}
 
+-- a choice whose test is known
+pub pick-true : {A : Type 0} (b : Bool) (x y : A) → b ≡ true → pick b x y ≡ x
+unfolding pick
+pick-true b x y e = ap (λ c. pick c x y) e
+
+pub pick-false : {A : Type 0} (b : Bool) (x y : A) → b ≡ false → pick b x y ≡ y
+unfolding pick
+pick-false b x y e = ap (λ c. pick c x y) e
+
 pub pow2-is : (n : ℕ) → pow2 n ≡ 2 ^ n
 unfolding pow2
 pow2-is zero = refl
@@ -56,8 +65,8 @@ bit-xor-is (suc n) a b ha hb =
 pub rotated : (j n a : ℕ) → a < 2 ^ (j + n) → bitOr (a / 2 ^ n) ((a * 2 ^ j) % 2 ^ (n + j)) ≡ a / pow2 n + (a % pow2 n) * pow2 j
 rotated j n a h =
     ap (λ (x : ℕ). bitOr (a / 2 ^ n) x)
-      (mod-pow-add (a * 2 ^ j) n j
-       ∙ ap₂ (λ (x y : ℕ). x % 2 ^ n * 2 ^ j + y) (shl-shr a j) (mul-mod-left a (2 ^ j)) ∙ add-zero (a % 2 ^ n * 2 ^ j))
+    (mod-pow-add (a * 2 ^ j) n j
+    ∙ ap₂ (λ (x y : ℕ). x % 2 ^ n * 2 ^ j + y) (shl-shr a j) (mul-mod-left a (2 ^ j)) ∙ add-zero (a % 2 ^ n * 2 ^ j))
     ∙ or-shifted-r (a % 2 ^ n) j (a / 2 ^ n) (shr-lt j n h)
     ∙ add-comm (a % 2 ^ n * 2 ^ j) (a / 2 ^ n)
     ∙ sym (ap₂ (λ (x y : ℕ). a / x + a % x * y) (pow2-is n) (pow2-is j))

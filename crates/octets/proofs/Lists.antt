@@ -4,7 +4,7 @@ use mathlib.Core.List.{List, [], _∷_, _++_, reverse, reverse-append}
 use Prim.Native.Nat.{ℕ, zero, suc, _+_, _-_, _*_, _≤_, _<_}
 use lib.ListN as L
 use lib.ListN.{length}
-use lib.Seq.{take-at, drop-at}
+use lib.Seq.{take-at, drop-at, length-take-le}
 use Rattle.octets.specs.Bytes.{take, drop, nth, repeat, reversed}
 
 pub nth-is : (xs : List ℕ) (n : ℕ) → nth xs n ≡ L.getD xs n 0
@@ -25,6 +25,16 @@ drop-is zero xs = refl
 drop-is (suc n) [] = refl
 drop-is (suc n) (x ∷ xs) = drop-is n xs
 
+-- what is taken and what is dropped: how long, and that both are the whole
+pub length-take : (n : ℕ) (xs : List ℕ) → n ≤ length xs → length (take n xs) ≡ n
+length-take n xs h = ap length (take-is n xs) ∙ length-take-le n xs h
+
+pub length-drop : (n : ℕ) (xs : List ℕ) → length (drop n xs) ≡ length xs - n
+length-drop n xs = ap length (drop-is n xs) ∙ L.length-drop n xs
+
+pub take-drop : (n : ℕ) (xs : List ℕ) → take n xs ++ drop n xs ≡ xs
+take-drop n xs = ap₂ (λ ys zs. ys ++ zs) (take-is n xs) (drop-is n xs) ∙ L.take-append-drop n xs
+
 pub repeat-is : (n a : ℕ) → repeat n a ≡ L.replicate n a
 unfolding repeat
 repeat-is zero a = refl
@@ -37,6 +47,7 @@ reversed-is (x ∷ xs) = ap (λ (ys : List ℕ). ys ++ (x ∷ [])) (reversed-is 
 
 -- two joined lists whose first parts are as long
 pub halves : {A : Type 0} (a b c d : List A) → length a ≡ length b → a ++ c ≡ b ++ d → (a ≡ b) × (c ≡ d)
-halves a b c d l e =
-    (sym (take-at a c (length a) refl) ∙ (ap (λ xs. L.take (length a) xs) e ∙ take-at b d (length a) (sym l)),
-     sym (drop-at a c (length a) refl) ∙ (ap (λ xs. L.drop (length a) xs) e ∙ drop-at b d (length a) (sym l)))
+halves a b c d l e = (
+  sym (take-at a c (length a) refl) ∙ (ap (λ xs. L.take (length a) xs) e ∙ take-at b d (length a) (sym l)),
+  sym (drop-at a c (length a) refl) ∙ (ap (λ xs. L.drop (length a) xs) e ∙ drop-at b d (length a) (sym l)),
+)

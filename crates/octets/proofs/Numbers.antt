@@ -8,7 +8,7 @@ use native.Mathlib.Omega.{arith}
 use lib.Dec.{eqb, ltb}
 use lib.ListN.{length, length-append}
 use Rattle.std.proofs.shelf.Tests.{and-parts, and-from, ltb-true, lt-ltb, eqb-true, eq-eqb}
-use Rattle.octets.specs.Bytes.{bytes-eq, to-bytes, number, of-bytes, all-bytes}
+use Rattle.octets.specs.Bytes.{bytes-eq, take, drop, to-bytes, number, of-bytes, all-bytes}
 
 pub bytes-eq-true : (xs ys : List ℕ) → bytes-eq xs ys ≡ true → xs ≡ ys
 unfolding bytes-eq
@@ -39,6 +39,18 @@ all-bytes-parts (x ∷ xs) ys p =
     let a = and-parts (ltb x 256) (all-bytes (xs ++ ys)) p in
     let b = all-bytes-parts xs ys (a .1) in
     (and-from (ltb x 256) (all-bytes xs) (a .0) (b .0), b .1)
+
+pub all-bytes-take : (n : ℕ) (xs : List ℕ) → all-bytes xs ≡ true → all-bytes (take n xs) ≡ true
+unfolding all-bytes take
+all-bytes-take zero xs b = refl
+all-bytes-take (suc n) [] b = refl
+all-bytes-take (suc n) (x ∷ xs) b = let p = and-parts (ltb x 256) (all-bytes xs) b in and-from (ltb x 256) (all-bytes (take n xs)) (p .0) (all-bytes-take n xs (p .1))
+
+pub all-bytes-drop : (n : ℕ) (xs : List ℕ) → all-bytes xs ≡ true → all-bytes (drop n xs) ≡ true
+unfolding all-bytes drop
+all-bytes-drop zero xs b = b
+all-bytes-drop (suc n) [] b = refl
+all-bytes-drop (suc n) (x ∷ xs) b = let p = and-parts (ltb x 256) (all-bytes xs) b in all-bytes-drop n xs (p .1)
 
 -- a number from bytes in two parts
 pub number-append : (a : ℕ) (xs ys : List ℕ) → number a (xs ++ ys) ≡ number (number a xs) ys
