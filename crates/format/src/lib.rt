@@ -1,1 +1,3 @@
-// format
+// What messages are, and what is true of them. Nothing here runs: specs/ has the definitions and the statements,
+// and each function's contract is one statement, so that its proof is owed.
+pub mod reading;
