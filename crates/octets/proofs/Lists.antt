@@ -5,6 +5,7 @@ use Prim.Native.Nat.{ℕ, zero, suc, _+_, _-_, _*_, _≤_, _<_}
 use lib.ListN as L
 use lib.ListN.{length}
 use lib.Seq.{take-at, drop-at, length-take-le}
+use Rattle.std.proofs.shelf.Lists.{reverse-reverse}
 use Rattle.octets.specs.Bytes.{take, drop, nth, repeat, reversed}
 
 pub nth-is : (xs : List ℕ) (n : ℕ) → nth xs n ≡ L.getD xs n 0
@@ -44,6 +45,14 @@ pub reversed-is : (xs : List ℕ) → reversed xs ≡ reverse xs
 unfolding reversed
 reversed-is [] = refl
 reversed-is (x ∷ xs) = ap (λ (ys : List ℕ). ys ++ (x ∷ [])) (reversed-is xs) ∙ sym (reverse-append (x ∷ []) xs)
+
+pub reversed-push : (xs : List ℕ) (v : ℕ) → reversed (xs ++ (v ∷ [])) ≡ v ∷ reversed xs
+unfolding reversed
+reversed-push [] v = refl
+reversed-push (x ∷ xs) v = ap (λ (ys : List ℕ). ys ++ (x ∷ [])) (reversed-push xs v)
+
+pub reversed-reversed : (xs : List ℕ) → reversed (reversed xs) ≡ xs
+reversed-reversed xs = reversed-is (reversed xs) ∙ ap reverse (reversed-is xs) ∙ reverse-reverse xs
 
 -- two joined lists whose first parts are as long
 pub halves : {A : Type 0} (a b c d : List A) → length a ≡ length b → a ++ c ≡ b ++ d → (a ≡ b) × (c ≡ d)

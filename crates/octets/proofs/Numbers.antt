@@ -3,8 +3,9 @@ use mathlib.Core.Path.{_≡_, refl, sym, ap, ap₂, _∙_}
 use mathlib.Core.Bool.{Bool, true, false, _&&_}
 use mathlib.Core.List.{List, [], _∷_, _++_}
 use Prim.Native.Nat.{ℕ, zero, suc, _+_, _*_, _-_, _/_, _%_, _^_, _≤_, _<_}
-use native.Mathlib.Nat.{pow-suc, suc-mul, mul-le-mul-right, add-mul, mul-assoc, mul-comm}
+use native.Mathlib.Nat.{pow-suc, suc-mul, mul-le-mul-right, add-mul, mul-assoc, mul-comm, one-le-pow, zero-lt-suc, div-div-eq-div-mul}
 use native.Mathlib.Omega.{arith}
+use lib.Arith.{mod-mul}
 use lib.Dec.{eqb, ltb}
 use lib.ListN.{length, length-append}
 use Rattle.std.proofs.shelf.Tests.{and-parts, and-from, ltb-true, lt-ltb, eqb-true, eq-eqb}
@@ -76,6 +77,26 @@ pub length-to-bytes : (k n : ℕ) → length (to-bytes k n) ≡ k
 unfolding to-bytes
 length-to-bytes zero n = refl
 length-to-bytes (suc k) n = let h = length-to-bytes k (n / 256) in length-append (to-bytes k (n / 256)) (n % 256 ∷ []) ∙ omega arith
+
+-- only the low k bytes of a number are written
+pub to-bytes-mod : (k n : ℕ) → to-bytes k (n % 256 ^ k) ≡ to-bytes k n
+unfolding to-bytes
+to-bytes-mod zero n = refl
+to-bytes-mod (suc k) n =
+    let p : 0 < 256 ^ k = one-le-pow k 256 (zero-lt-suc 255) in
+    let e : n % 256 ^ suc k ≡ (n / 256 % 256 ^ k) * 256 + n % 256 = ap (λ m. n % m) (pow-suc 256 k) ∙ mod-mul n p (zero-lt-suc 255) in
+    let d : (n % 256 ^ suc k) / 256 ≡ n / 256 % 256 ^ k = omega arith in
+    let m : (n % 256 ^ suc k) % 256 ≡ n % 256 = omega arith in
+    ap₂ (λ q r. to-bytes k q ++ (r ∷ [])) d m ∙ ap (λ bs. bs ++ (n % 256 ∷ [])) (to-bytes-mod k (n / 256))
+
+-- the bytes of a word one by one, as the code's `to_be_bytes` gives them
+pub to-bytes-8 : (w : ℕ) → to-bytes 8 w ≡ (w / 72057594037927936 % 256) ∷ (w / 281474976710656 % 256) ∷ (w / 1099511627776 % 256) ∷ (w / 4294967296 % 256) ∷ (w / 16777216 % 256) ∷ (w / 65536 % 256) ∷ (w / 256 % 256) ∷ (w % 256) ∷ []
+unfolding to-bytes
+to-bytes-8 w = simp div-div-eq-div-mul
+
+pub to-bytes-16 : (w : ℕ) → to-bytes 16 w ≡ (w / 1329227995784915872903807060280344576 % 256) ∷ (w / 5192296858534827628530496329220096 % 256) ∷ (w / 20282409603651670423947251286016 % 256) ∷ (w / 79228162514264337593543950336 % 256) ∷ (w / 309485009821345068724781056 % 256) ∷ (w / 1208925819614629174706176 % 256) ∷ (w / 4722366482869645213696 % 256) ∷ (w / 18446744073709551616 % 256) ∷ (w / 72057594037927936 % 256) ∷ (w / 281474976710656 % 256) ∷ (w / 1099511627776 % 256) ∷ (w / 4294967296 % 256) ∷ (w / 16777216 % 256) ∷ (w / 65536 % 256) ∷ (w / 256 % 256) ∷ (w % 256) ∷ []
+unfolding to-bytes
+to-bytes-16 w = simp div-div-eq-div-mul
 
 pub all-bytes-to : (k n : ℕ) → all-bytes (to-bytes k n) ≡ true
 unfolding to-bytes all-bytes
