@@ -1,3 +1,4 @@
 pub mod Words
 pub mod Constants
 pub mod Sha512
+pub mod Held

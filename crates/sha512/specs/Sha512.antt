@@ -49,5 +49,12 @@ unfoldable pub words-bytes : List ℕ → List ℕ
 words-bytes [] = []
 words-bytes (w ∷ ws) = to-bytes 8 w ++ words-bytes ws
 
+-- the state after a message, and as many of its bytes as the hash has: SHA-512 and the shorter hashes of its family
+abbrev pub final-state : List ℕ → List ℕ → List ℕ
+final-state initial m = hash-blocks (length (padded m) / 128) initial (padded m)
+
+unfoldable pub hash-from : List ℕ → ℕ → List ℕ → List ℕ
+hash-from initial n m = take n (words-bytes (final-state initial m))
+
 unfoldable pub sha512 : List ℕ → List ℕ
-sha512 m = words-bytes (hash-blocks (length (padded m) / 128) initial-state (padded m))
+sha512 m = hash-from initial-state 64 m

@@ -1,0 +1,3 @@
+pub mod Schedule
+pub mod Padding
+pub mod Pieces
