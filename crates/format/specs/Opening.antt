@@ -10,7 +10,8 @@ use Rattle.gcm.specs.Gcm.{unseal}
 use Rattle.format.specs.Request.{Pair}
 use Rattle.format.specs.Header.{Header}
 use Rattle.format.specs.Piece.{Piece, frame-aad, header-piece, frame-piece, seal-header}
-use Rattle.format.specs.Reading.{and-then, is-empty, ReadHeader, read-header, ReadFrame, read-frame}
+use Rattle.octets.specs.Cut.{and-then}
+use Rattle.format.specs.Reading.{is-empty, ReadHeader, read-header, ReadFrame, read-frame}
 
 -- opened, or why not and at which frame: 3 no header; 4 another key; 5 the header's tag; 6 not the next frame; 7 a frame's tag; 8 something after the final frame
 pub data Opened : Type 0 where

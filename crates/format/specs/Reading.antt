@@ -5,27 +5,14 @@ use Prim.Native.Nat.{ℕ, zero, suc}
 use lib.Dec.{ltb, leb, eqb}
 use lib.ListN.{length}
 use Rattle.octets.specs.Bits.{pick}
-use Rattle.octets.specs.Bytes.{bytes-eq, take, drop, to-bytes, of-bytes}
+use Rattle.octets.specs.Bytes.{bytes-eq, to-bytes, of-bytes}
+pub use Rattle.octets.specs.Cut.{Cut, cut}
+unfoldable pub use Rattle.octets.specs.Cut.{and-then, guard}
 use Rattle.gcm.specs.Gcm.{Sealed}
 use Rattle.format.specs.Request.{Pair, EncryptedDataKey, rising, end-marker}
 use Rattle.format.specs.Header.{Header}
 
--- n bytes cut off the front
-pub record Cut : Type 0 where
-  pub front : List ℕ
-  pub rest : List ℕ
-
-abbrev pub cut : ℕ → List ℕ → List Cut
-cut n bs = pick (leb n (length bs)) (record { front = take n bs; rest = drop n bs } ∷ []) []
-
-unfoldable pub and-then : {A B : Type 0} → List A → (A → List B) → List B
-and-then [] f = []
-and-then (x ∷ xs) f = f x
-
-unfoldable pub guard : {A : Type 0} → Bool → List A → List A
-guard true xs = xs
-guard false xs = []
-
+-- a field cut off the front: two bytes of length, then as many bytes
 abbrev pub cut-field : List ℕ → List Cut
 cut-field bs = and-then (cut 2 bs) (λ c. cut (of-bytes (c .front)) (c .rest))
 

@@ -7,7 +7,9 @@ use native.Mathlib.Nat.{pow-suc, suc-mul, mul-le-mul-right, add-mul, mul-assoc, 
 use native.Mathlib.Omega.{arith}
 use lib.Arith.{mod-mul}
 use lib.Dec.{eqb, ltb}
-use lib.ListN.{length, length-append}
+use lib.ListN as L
+use lib.ListN.{length, getD, length-append}
+use lib.Seq.{drop-cons, take-all}
 use Rattle.std.proofs.shelf.Tests.{and-parts, and-from, ltb-true, lt-ltb, eqb-true, eq-eqb}
 use Rattle.octets.specs.Bytes.{bytes-eq, take, drop, to-bytes, number, of-bytes, all-bytes}
 
@@ -90,6 +92,14 @@ to-bytes-mod (suc k) n =
     ap₂ (λ q r. to-bytes k q ++ (r ∷ [])) d m ∙ ap (λ bs. bs ++ (n % 256 ∷ [])) (to-bytes-mod k (n / 256))
 
 -- the bytes of a word one by one, as the code's `to_be_bytes` gives them
+pub to-bytes-2 : (w : ℕ) → to-bytes 2 w ≡ (w / 256 % 256) ∷ (w % 256) ∷ []
+unfolding to-bytes
+to-bytes-2 w = refl
+
+pub to-bytes-4 : (w : ℕ) → to-bytes 4 w ≡ (w / 16777216 % 256) ∷ (w / 65536 % 256) ∷ (w / 256 % 256) ∷ (w % 256) ∷ []
+unfolding to-bytes
+to-bytes-4 w = simp div-div-eq-div-mul
+
 pub to-bytes-8 : (w : ℕ) → to-bytes 8 w ≡ (w / 72057594037927936 % 256) ∷ (w / 281474976710656 % 256) ∷ (w / 1099511627776 % 256) ∷ (w / 4294967296 % 256) ∷ (w / 16777216 % 256) ∷ (w / 65536 % 256) ∷ (w / 256 % 256) ∷ (w % 256) ∷ []
 unfolding to-bytes
 to-bytes-8 w = simp div-div-eq-div-mul
@@ -149,3 +159,50 @@ pub to-of-bytes : (k : ℕ) (bs : List ℕ) → length bs ≡ k → all-bytes bs
 to-of-bytes k bs l p =
     let h : of-bytes bs < 256 ^ k = rw (← l) (of-bytes-below bs p) in
     number-injective 0 0 (to-bytes k (of-bytes bs)) bs (length-to-bytes k (of-bytes bs) ∙ sym l) (all-bytes-to k (of-bytes bs)) p (of-to-bytes k (of-bytes bs) h) .1
+
+-- the bytes that stand from a place on, one by one
+unfoldable read-from : ℕ → ℕ → List ℕ → List ℕ
+read-from i zero bs = []
+read-from i (suc n) bs = getD bs i 0 ∷ read-from (suc i) n bs
+
+read-from-is : (i n : ℕ) (bs : List ℕ) → i + n ≤ length bs → read-from i n bs ≡ L.take n (L.drop i bs)
+unfolding read-from
+read-from-is i zero bs h = refl
+read-from-is i (suc n) bs h =
+    ap (λ xs. getD bs i 0 ∷ xs) (read-from-is (suc i) n bs (omega arith)) ∙ ap (λ xs. L.take (suc n) xs) (sym (drop-cons bs i 0 (omega arith)))
+
+pub first-2 : (bs : List ℕ) → 2 ≤ length bs → getD bs 0 0 ∷ (getD bs 1 0 ∷ []) ≡ L.take 2 bs
+unfolding read-from
+first-2 bs h = read-from-is 0 2 bs h
+
+pub first-4 : (bs : List ℕ) → 4 ≤ length bs → getD bs 0 0 ∷ (getD bs 1 0 ∷ (getD bs 2 0 ∷ (getD bs 3 0 ∷ []))) ≡ L.take 4 bs
+unfolding read-from
+first-4 bs h = read-from-is 0 4 bs h
+
+pub first-8 : (bs : List ℕ) → 8 ≤ length bs
+    → getD bs 0 0 ∷ (getD bs 1 0 ∷ (getD bs 2 0 ∷ (getD bs 3 0 ∷ (getD bs 4 0 ∷ (getD bs 5 0 ∷ (getD bs 6 0 ∷ (getD bs 7 0 ∷ []))))))) ≡ L.take 8 bs
+unfolding read-from
+first-8 bs h = read-from-is 0 8 bs h
+
+-- a number of so many bytes, as a sum
+sum-2 : (a b : ℕ) → a * 256 + b ≡ of-bytes (a ∷ (b ∷ []))
+unfolding number
+sum-2 a b = omega arith
+
+sum-4 : (a b c d : ℕ) → a * 16777216 + b * 65536 + c * 256 + d ≡ of-bytes (a ∷ (b ∷ (c ∷ (d ∷ []))))
+unfolding number
+sum-4 a b c d = omega arith
+
+sum-8 : (a b c d e f g h : ℕ) → a * 72057594037927936 + b * 281474976710656 + c * 1099511627776 + d * 4294967296 + e * 16777216 + f * 65536 + g * 256 + h ≡ of-bytes (a ∷ (b ∷ (c ∷ (d ∷ (e ∷ (f ∷ (g ∷ (h ∷ []))))))))
+unfolding number
+sum-8 a b c d e f g h = omega arith
+
+pub of-bytes-2 : (bs : List ℕ) → length bs ≡ 2 → getD bs 0 0 * 256 + getD bs 1 0 ≡ of-bytes bs
+of-bytes-2 bs h = sum-2 _ _ ∙ ap (λ xs. number 0 xs) (first-2 bs (omega arith) ∙ take-all 2 bs (omega arith))
+
+pub of-bytes-4 : (bs : List ℕ) → length bs ≡ 4 → getD bs 0 0 * 16777216 + getD bs 1 0 * 65536 + getD bs 2 0 * 256 + getD bs 3 0 ≡ of-bytes bs
+of-bytes-4 bs h = sum-4 _ _ _ _ ∙ ap (λ xs. number 0 xs) (first-4 bs (omega arith) ∙ take-all 4 bs (omega arith))
+
+pub of-bytes-8 : (bs : List ℕ) → length bs ≡ 8
+    → getD bs 0 0 * 72057594037927936 + getD bs 1 0 * 281474976710656 + getD bs 2 0 * 1099511627776 + getD bs 3 0 * 4294967296 + getD bs 4 0 * 16777216 + getD bs 5 0 * 65536 + getD bs 6 0 * 256 + getD bs 7 0 ≡ of-bytes bs
+of-bytes-8 bs h = sum-8 _ _ _ _ _ _ _ _ ∙ ap (λ xs. number 0 xs) (first-8 bs (omega arith) ∙ take-all 8 bs (omega arith))

@@ -1,2 +1,4 @@
 pub mod Bits
 pub mod Bytes
+pub mod Cut
+pub mod Splice
