@@ -2,10 +2,11 @@
 use mathlib.Core.Path.{_≡_, refl, sym, ap, ap₂, _∙_}
 use mathlib.Core.List.{List, [], _∷_, _++_, reverse, reverse-append}
 use Prim.Native.Nat.{ℕ, zero, suc, _+_, _-_, _*_, _≤_, _<_}
+use native.Mathlib.Omega.{arith}
 use lib.ListN as L
 use lib.ListN.{length}
 use lib.Seq.{take-at, drop-at, length-take-le}
-use Rattle.std.proofs.shelf.Lists.{reverse-reverse}
+use Rattle.std.proofs.shelf.Lists.{reverse-reverse, drop-more}
 use Rattle.octets.specs.Bytes.{take, drop, nth, repeat, reversed}
 
 pub nth-is : (xs : List ℕ) (n : ℕ) → nth xs n ≡ L.getD xs n 0
@@ -53,6 +54,20 @@ reversed-push (x ∷ xs) v = ap (λ (ys : List ℕ). ys ++ (x ∷ [])) (reversed
 
 pub reversed-reversed : (xs : List ℕ) → reversed (reversed xs) ≡ xs
 reversed-reversed xs = reversed-is (reversed xs) ∙ ap reverse (reversed-is xs) ∙ reverse-reverse xs
+
+-- n elements from the place i + k on, one by one
+unfoldable pub elements : ℕ → ℕ → ℕ → List ℕ → List ℕ
+elements zero i k xs = []
+elements (suc n) i k xs = L.getD xs (i + k) 0 ∷ elements n i (suc k) xs
+
+pub elements-are : (n i k : ℕ) (xs : List ℕ) → i + k + n ≤ length xs → L.take n (L.drop (i + k) xs) ≡ elements n i k xs
+unfolding elements
+elements-are zero i k xs h = refl
+elements-are (suc n) i k xs h =
+    let l : i + k < length xs = omega arith in
+    let m : i + suc k + n ≤ length xs = omega arith in
+    let e : i + k + 1 ≡ i + suc k = omega arith in
+    ap (λ ys. L.take (suc n) ys) (drop-more xs (i + k) 0 l) ∙ ap (λ ys. L.getD xs (i + k) 0 ∷ ys) (ap (λ j. L.take n (L.drop j xs)) e ∙ elements-are n i (suc k) xs m)
 
 -- two joined lists whose first parts are as long
 pub halves : {A : Type 0} (a b c d : List A) → length a ≡ length b → a ++ c ≡ b ++ d → (a ≡ b) × (c ≡ d)

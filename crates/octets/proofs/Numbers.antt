@@ -1,9 +1,9 @@
 -- Byte strings compared, and numbers in bytes: how long, that they are bytes, and that each comes back from the other.
 use mathlib.Core.Path.{_≡_, refl, sym, ap, ap₂, _∙_}
 use mathlib.Core.Bool.{Bool, true, false, _&&_}
-use mathlib.Core.List.{List, [], _∷_, _++_}
+use mathlib.Core.List.{List, [], _∷_, _++_, append-nil, append-assoc}
 use Prim.Native.Nat.{ℕ, zero, suc, _+_, _*_, _-_, _/_, _%_, _^_, _≤_, _<_}
-use native.Mathlib.Nat.{pow-suc, suc-mul, mul-le-mul-right, add-mul, mul-assoc, mul-comm, one-le-pow, zero-lt-suc, div-div-eq-div-mul}
+use native.Mathlib.Nat.{pow-suc, suc-mul, mul-le-mul-right, add-mul, mul-assoc, mul-comm, one-le-pow, zero-lt-suc, mod-lt, div-div-eq-div-mul}
 use native.Mathlib.Omega.{arith}
 use lib.Arith.{mod-mul}
 use lib.Dec.{eqb, ltb}
@@ -91,6 +91,17 @@ to-bytes-mod (suc k) n =
     let m : (n % 256 ^ suc k) % 256 ≡ n % 256 = omega arith in
     ap₂ (λ q r. to-bytes k q ++ (r ∷ [])) d m ∙ ap (λ bs. bs ++ (n % 256 ∷ [])) (to-bytes-mod k (n / 256))
 
+-- the high bytes first, then the low ones
+pub to-bytes-parts : (m n x : ℕ) → to-bytes (m + n) x ≡ to-bytes m (x / 256 ^ n) ++ to-bytes n x
+unfolding to-bytes
+to-bytes-parts m zero x = let e : m + 0 ≡ m = omega arith in let d : x ≡ x / 1 = omega arith in ap₂ to-bytes e d ∙ sym (append-nil (to-bytes m (x / 1)))
+to-bytes-parts m (suc n) x =
+    let e : m + suc n ≡ suc (m + n) = omega arith in
+    let d : x / 256 / 256 ^ n ≡ x / 256 ^ suc n = div-div-eq-div-mul x 256 (256 ^ n) ∙ ap (λ k. x / k) (mul-comm 256 (256 ^ n) ∙ sym (pow-suc 256 n)) in
+    ap (λ k. to-bytes k x) e
+    ∙ (ap (λ ys. ys ++ (x % 256 ∷ [])) (to-bytes-parts m n (x / 256))
+    ∙ (append-assoc (to-bytes m (x / 256 / 256 ^ n)) (to-bytes n (x / 256)) (x % 256 ∷ []) ∙ ap (λ p. to-bytes m p ++ to-bytes (suc n) x) d))
+
 -- the bytes of a word one by one, as the code's `to_be_bytes` gives them
 pub to-bytes-2 : (w : ℕ) → to-bytes 2 w ≡ (w / 256 % 256) ∷ (w % 256) ∷ []
 unfolding to-bytes
@@ -121,6 +132,9 @@ of-to-bytes (suc k) n h =
     let l : n / 256 < 256 ^ k = omega (arith, pow-suc 256 k) in
     let e : number 0 (to-bytes k (n / 256)) ≡ n / 256 = of-to-bytes k (n / 256) l in
     number-append 0 (to-bytes k (n / 256)) (n % 256 ∷ []) ∙ omega arith
+
+pub of-to-bytes-mod : (k n : ℕ) → of-bytes (to-bytes k n) ≡ n % 256 ^ k
+of-to-bytes-mod k n = ap (λ bs. of-bytes bs) (sym (to-bytes-mod k n)) ∙ of-to-bytes k (n % 256 ^ k) (mod-lt n (one-le-pow k 256 (zero-lt-suc 255)))
 
 pub to-bytes-injective : (k a b : ℕ) → a < 256 ^ k → b < 256 ^ k → to-bytes k a ≡ to-bytes k b → a ≡ b
 to-bytes-injective k a b ha hb e = sym (of-to-bytes k a ha) ∙ (ap (λ xs. number 0 xs) e ∙ of-to-bytes k b hb)
