@@ -1,4 +1,5 @@
 pub mod Bits
+mod Compared
 pub mod Cuts
 pub mod Lists
 pub mod Numbers

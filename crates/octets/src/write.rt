@@ -1,5 +1,7 @@
 // Bytes and big-endian numbers, written into the middle of lent bytes.
-ghost use Rattle.octets.specs.Bytes.{to-bytes};
+ghost use mathlib.Core.Path.{_≡_};
+ghost use lib.ListN.{length};
+ghost use Rattle.octets.specs.Bytes.{repeat, to-bytes};
 ghost use Rattle.octets.specs.Splice.{Put};
 
 // Writes bytes from a place on, and answers where the next go; None where they do not fit, and then
@@ -32,4 +34,11 @@ pub fn put_u64(out: &mut [u8], at: usize, n: u64) -> Option<usize>
     ensures value { λ r. ⌜ Put (now (out .entry)) at (to-bytes 8 n) r (now (out .exit)) ⌝ }
 {
     put(out, at, &n.to_be_bytes())
+}
+
+// Sets every byte to 0.
+pub fn clear(out: &mut [u8])
+    ensures value { λ _. ⌜ now (out .exit) ≡ repeat (length (now (out .entry))) 0 ⌝ }
+{
+    out.fill(0);
 }
