@@ -61,6 +61,20 @@ bit-xor-is (suc n) a b ha hb =
     ap₂ (λ (x y : ℕ). x + 2 * y) (xor-digit (a % 2) (b % 2) (mod-lt a (zero-lt-suc 1)) (mod-lt b (zero-lt-suc 1))) (bit-xor-is n (a / 2) (b / 2) (half-lt n ha) (half-lt n hb))
     ∙ (let s : bitXor a b ≡ bitXor (a / 2) (b / 2) * 2 + differ (a % 2) (b % 2) = xor-step a b in omega arith)
 
+-- what an exclusive or of n bits gives has n bits, whatever was put in
+digit-lt : (b : Bool) → pick b 0 1 < 2
+unfolding pick
+digit-lt true = omega arith
+digit-lt false = omega arith
+
+pub bit-xor-lt : (n a b : ℕ) → bit-xor n a b < 2 ^ n
+unfolding bit-xor
+bit-xor-lt zero a b = omega arith
+bit-xor-lt (suc n) a b =
+    let d : pick (eqb (a % 2) (b % 2)) 0 1 < 2 = digit-lt (eqb (a % 2) (b % 2)) in
+    let h : bit-xor n (a / 2) (b / 2) < 2 ^ n = bit-xor-lt n (a / 2) (b / 2) in
+    omega (arith, pow-suc 2 n)
+
 -- a rotation to the right at a width of j + n bits: the n low bits go to the top
 pub rotated : (j n a : ℕ) → a < 2 ^ (j + n) → bitOr (a / 2 ^ n) ((a * 2 ^ j) % 2 ^ (n + j)) ≡ a / pow2 n + (a % pow2 n) * pow2 j
 rotated j n a h =

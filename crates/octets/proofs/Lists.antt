@@ -1,7 +1,8 @@
--- The list functions of the definitions are the library's, and two lists joined can be taken apart.
+-- The list functions of the definitions are the library's, two lists joined can be taken apart, and tables are known at each place.
 use mathlib.Core.Path.{_≡_, refl, sym, ap, ap₂, _∙_}
 use mathlib.Core.List.{List, [], _∷_, _++_, reverse, reverse-append}
 use Prim.Native.Nat.{ℕ, zero, suc, _+_, _-_, _*_, _≤_, _<_}
+use native.Mathlib.Nat.{add-zero, zero-add}
 use native.Mathlib.Omega.{arith}
 use lib.ListN as L
 use lib.ListN.{length}
@@ -75,3 +76,16 @@ halves a b c d l e = (
   sym (take-at a c (length a) refl) ∙ (ap (λ xs. L.take (length a) xs) e ∙ take-at b d (length a) (sym l)),
   sym (drop-at a c (length a) refl) ∙ (ap (λ xs. L.drop (length a) xs) e ∙ drop-at b d (length a) (sym l)),
 )
+
+-- the table of f at n places from i on, and its entry at each
+abbrev pub tabulated : (ℕ → ℕ) → ℕ → ℕ → List ℕ
+tabulated f zero i = []
+tabulated f (suc n) i = f i ∷ tabulated f n (suc i)
+
+entry-from : (f : ℕ → ℕ) (n i k : ℕ) → k < n → L.getD (tabulated f n i) k 0 ≡ f (i + k)
+entry-from f zero i k h = absurd (omega arith)
+entry-from f (suc n) i zero h = ap f (sym (add-zero i))
+entry-from f (suc n) i (suc k) h = entry-from f n (suc i) k (omega arith) ∙ ap f (omega arith)
+
+pub table-entry : (f : ℕ → ℕ) (n k : ℕ) → k < n → L.getD (tabulated f n 0) k 0 ≡ f k
+table-entry f n k h = entry-from f n 0 k h ∙ ap f (zero-add k)
