@@ -1,0 +1,55 @@
+// Public test vectors and known messages, run against the library: one line a file, with how many cases came out as expected.
+mod hashes;
+mod words;
+
+use std::alloc::Global;
+use std::error::AnyError;
+use std::fs;
+
+#[derive(Clone, Copy)]
+enum Suite {
+    Sha512,
+}
+
+impl Suite {
+    fn file(self) -> &'static str {
+        match self {
+            Suite::Sha512 => "sha512.txt",
+        }
+    }
+
+    // Whether the case on this line comes out as expected.
+    fn case(self, heap: Global, line: &str) -> Result<bool, AnyError> {
+        match self {
+            Suite::Sha512 => hashes::sha512_case(heap, line),
+        }
+    }
+}
+
+fn count(suite: Suite, heap: Global, text: &str) -> Result<(u32, u32), AnyError> {
+    let mut right = 0u32;
+    let mut all = 0u32;
+    for line in text.lines() {
+        if suite.case(heap, line)? {
+            right = right.saturating_add(1);
+        }
+        all = all.saturating_add(1);
+    }
+    Ok((right, all))
+}
+
+fn run(rt: &LibcRuntime, suite: Suite) -> Result<(), AnyError> {
+    let name = suite.file();
+    let text = fs::read_to_string(rt, name)?;
+    let (right, all) = count(suite, rt.alloc(), text.as_str())?;
+    println!(rt, "{name}: {right} of {all}")?;
+    Ok(())
+}
+
+fn all(rt: &LibcRuntime) -> Result<(), AnyError> {
+    run(rt, Suite::Sha512)
+}
+
+fn main(rt: LibcRuntime) -> Result<(), AnyError> {
+    rt.report(all(&rt))
+}
