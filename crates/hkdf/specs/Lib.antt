@@ -1,3 +1,4 @@
 pub mod Hmac
+pub mod Keyed
 pub mod Hkdf
 pub mod MessageKeys

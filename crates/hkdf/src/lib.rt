@@ -1,1 +1,10 @@
-// hkdf
+// Keys from keys: HMAC and HKDF over SHA-512, and the two keys of a message, each equal to its definition for every input.
+mod kdf;
+mod keys;
+mod mac;
+
+pub use kdf::TooLong;
+pub use kdf::derive;
+pub use keys::MessageKeys;
+pub use keys::message_keys;
+pub use mac::hmac;
