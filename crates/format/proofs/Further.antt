@@ -114,7 +114,7 @@ module _ (cs : List ℕ) where
       (and-then-grows cut-on frame-on (cut (of-bytes (l .front)) (l .rest)) (cut (of-bytes (l .front)) (l .rest ++ cs)) _ _ (cut-grows (of-bytes (l .front)) (l .rest)) (λ c.
       and-then-grows cut-on frame-on (cut 16 (c .rest)) (cut 16 (c .rest ++ cs)) _ _ (cut-grows 16 (c .rest)) (λ t. one-grows frame-on _ _ refl))))))))
 
-  frame-grows : (size n : ℕ) (bs : List ℕ) → Grows frame-on (read-frame size n bs) (read-frame size n (bs ++ cs))
+  pub frame-grows : (size n : ℕ) (bs : List ℕ) → Grows frame-on (read-frame size n bs) (read-frame size n (bs ++ cs))
   frame-grows size n bs =
       and-then-grows cut-on frame-on (cut 4 bs) (cut 4 (bs ++ cs)) _ _ (cut-grows 4 bs) (λ m.
       pick-grows frame-on (eqb (of-bytes (m .front)) end-marker) _ _ _ _ (final-grows size n (m .rest)) (guard-grows frame-on _ _ _ (regular-grows size n (m .rest))))

@@ -4,3 +4,13 @@ pub mod FieldsRead
 pub mod Headers
 pub mod Frames
 pub mod Further
+pub mod Below
+pub mod Requests
+pub mod Pieces
+pub mod Opening
+pub mod Follow
+pub mod Accounted
+pub mod Lengths
+pub mod Sealing
+pub mod Nonces
+pub mod Ends

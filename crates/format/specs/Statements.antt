@@ -5,7 +5,7 @@ use mathlib.Core.List.{List, [], _∷_, _++_}
 use Prim.Native.Nat.{ℕ, _+_, _*_, _-_, _/_, _<_}
 use lib.ListN.{length}
 use Rattle.octets.specs.Bits.{pick}
-use Rattle.octets.specs.Bytes.{bytes-eq, all-bytes}
+use Rattle.octets.specs.Bytes.{bytes-eq, take, all-bytes}
 use Rattle.hkdf.specs.MessageKeys.{commitment}
 use Rattle.gcm.specs.Gcm.{seal, unseal}
 use Rattle.format.specs.Request.{Pair, Request, data-keys-bytes, seal-refusal, well-formed}
@@ -48,6 +48,14 @@ Length-is-known =
 unfoldable pub Nothing-less-or-more : Type 0
 Nothing-less-or-more =
     (k bs cs text other : List ℕ) (context ctx : List Pair) → open-message k bs ≡ opened context text → 0 < length cs → (open-message k (bs ++ cs) ≡ opened ctx other) → ⊥
+
+-- the same with the refusal, and from the longer message's side
+unfoldable pub Going-on-is-refused : Type 0
+Going-on-is-refused = (k bs cs text : List ℕ) (context : List Pair) → open-message k bs ≡ opened context text → 0 < length cs → (n : ℕ) × (open-message k (bs ++ cs) ≡ not-opened 8 n)
+
+unfoldable pub No-beginning-opens : Type 0
+No-beginning-opens =
+    (k bs text other : List ℕ) (context ctx : List Pair) (n : ℕ) → open-message k bs ≡ opened context text → n < length bs → (open-message k (take n bs) ≡ opened ctx other) → ⊥
 
 -- 6. opening a sealed piece gives the text
 unfoldable pub Open-undoes-seal : Type 0
