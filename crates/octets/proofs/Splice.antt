@@ -91,6 +91,9 @@ pub put-fits : (old : List ℕ) (at : ℕ) (new : List ℕ) (r : Option ℕ) (ou
 put-fits old at new (Some n) out h p = (ap Some (p .next), p .holds)
 put-fits old at new None out h p = absurd (omega (arith, p .lacks))
 
+pub put-written : (old : List ℕ) (at : ℕ) (new : List ℕ) (r : Option ℕ) (out : List ℕ) → at + length new ≤ length old → Put old at new r out → Written old at new (at + length new) out
+put-written old at new r out h p = record { room = h; next = refl; holds = put-fits old at new r out h p .1 }
+
 pub written-then : (old mid out a b : List ℕ) (at n m : ℕ) → Written old at a n mid → Written mid n b m out → Written old at (a ++ b) m out
 written-then old mid out a b at n m p q =
     let long : length mid ≡ length old = ap length (p .holds) ∙ length-spliced old at a (p .room) in
@@ -99,3 +102,7 @@ written-then old mid out a b at n m p q =
     let v = q .next in
     let w = q .room in
     record { room = omega arith; next = omega arith; holds = spliced-then old mid out a b at n (p .room) (p .next) (p .holds) (q .holds) }
+
+-- where all is written over
+pub written-all : (old new out : List ℕ) (n : ℕ) → length new ≡ length old → Written old 0 new n out → out ≡ new
+written-all old new out n l p = p .holds ∙ spliced-all old new l
