@@ -10,7 +10,7 @@ use Rattle.aes256.specs.Field.{xtime, inverse}
 abbrev pub rotate-byte : ℕ → ℕ → ℕ
 rotate-byte n a = (a * pow2 n) % 256 + a / pow2 (8 - n)
 
-abbrev pub sub-byte : ℕ → ℕ
+unfoldable pub sub-byte : ℕ → ℕ
 sub-byte a =
     let i : ℕ = inverse a in
     bit-xor 8 (bit-xor 8 (bit-xor 8 i (rotate-byte 1 i)) (bit-xor 8 (rotate-byte 2 i) (rotate-byte 3 i))) (bit-xor 8 (rotate-byte 4 i) 99)

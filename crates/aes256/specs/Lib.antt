@@ -1,2 +1,5 @@
 pub mod Field
 pub mod Aes
+pub mod Columns
+pub mod Schedule
+pub mod RoundKeys

@@ -1,1 +1,13 @@
-// aes256
+// AES-256, the block cipher (FIPS 197): a key is expanded once, and blocks are encrypted under it.
+// What a call returns is the value of the definitions in specs/Aes, for every key and every block.
+// Decryption is not here: counter mode has no need of it.
+mod block;
+mod columns;
+mod keys;
+mod rounds;
+mod schedule;
+mod tables;
+
+pub use block::encrypt_block;
+pub use keys::RoundKeys;
+pub use schedule::expand_key;

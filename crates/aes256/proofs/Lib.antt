@@ -1,0 +1,6 @@
+pub mod TableRules
+pub mod WordBytes
+pub mod Mixing
+pub mod RoundBytes
+pub mod ScheduleWords
+pub mod KeyOf
