@@ -9,12 +9,16 @@ use std::fs;
 #[derive(Clone, Copy)]
 enum Suite {
     Sha512,
+    Hmac,
+    Hkdf,
 }
 
 impl Suite {
     fn file(self) -> &'static str {
         match self {
             Suite::Sha512 => "sha512.txt",
+            Suite::Hmac => "hmac512.txt",
+            Suite::Hkdf => "hkdf512.txt",
         }
     }
 
@@ -22,6 +26,8 @@ impl Suite {
     fn case(self, heap: Global, line: &str) -> Result<bool, AnyError> {
         match self {
             Suite::Sha512 => hashes::sha512_case(heap, line),
+            Suite::Hmac => hashes::hmac_case(heap, line),
+            Suite::Hkdf => hashes::hkdf_case(heap, line),
         }
     }
 }
@@ -47,7 +53,9 @@ fn run(rt: &LibcRuntime, suite: Suite) -> Result<(), AnyError> {
 }
 
 fn all(rt: &LibcRuntime) -> Result<(), AnyError> {
-    run(rt, Suite::Sha512)
+    run(rt, Suite::Sha512)?;
+    run(rt, Suite::Hmac)?;
+    run(rt, Suite::Hkdf)
 }
 
 fn main(rt: LibcRuntime) -> Result<(), AnyError> {
