@@ -4,3 +4,4 @@ pub mod Mixing
 pub mod RoundBytes
 pub mod ScheduleWords
 pub mod KeyOf
+pub mod PrintedValues

@@ -3,3 +3,4 @@ pub mod Aes
 pub mod Columns
 pub mod Schedule
 pub mod RoundKeys
+pub mod Examples

@@ -3,6 +3,7 @@
 // Decryption is not here: counter mode has no need of it.
 mod block;
 mod columns;
+mod examples;
 mod keys;
 mod rounds;
 mod schedule;
