@@ -106,3 +106,12 @@ written-then old mid out a b at n m p q =
 -- where all is written over
 pub written-all : (old new out : List ℕ) (n : ℕ) → length new ≡ length old → Written old 0 new n out → out ≡ new
 written-all old new out n l p = p .holds ∙ spliced-all old new l
+
+-- a second write where the first ended, with room for both
+pub put-then : (old mid out a b : List ℕ) (at n : ℕ) (r : Option ℕ) → at + (length a + length b) ≤ length old → Written old at a n mid → Put mid n b r out → Put old at (a ++ b) r out
+put-then old mid out a b at n (Some m) h p q = written-then old mid out a b at n m p q
+put-then old mid out a b at n None h p q =
+    let long : length mid ≡ length old = ap length (p .holds) ∙ length-spliced old at a (p .room) in
+    let u = p .next in
+    let v = q .lacks in
+    absurd (omega arith)

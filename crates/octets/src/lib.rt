@@ -21,3 +21,6 @@ pub use write::put;
 pub use write::put_u16;
 pub use write::put_u32;
 pub use write::put_u64;
+
+#[cfg(test)]
+mod tests;

@@ -21,19 +21,22 @@ pub fn put(out: &mut [u8], at: usize, bytes: &[u8]) -> Option<usize>
 pub fn put_u16(out: &mut [u8], at: usize, n: u16) -> Option<usize>
     ensures value { λ r. ⌜ Put (now (out .entry)) at (to-bytes 2 n) r (now (out .exit)) ⌝ }
 {
-    put(out, at, &n.to_be_bytes())
+    let two = n.to_be_bytes();
+    put(out, at, &two)
 }
 
 pub fn put_u32(out: &mut [u8], at: usize, n: u32) -> Option<usize>
     ensures value { λ r. ⌜ Put (now (out .entry)) at (to-bytes 4 n) r (now (out .exit)) ⌝ }
 {
-    put(out, at, &n.to_be_bytes())
+    let four = n.to_be_bytes();
+    put(out, at, &four)
 }
 
 pub fn put_u64(out: &mut [u8], at: usize, n: u64) -> Option<usize>
     ensures value { λ r. ⌜ Put (now (out .entry)) at (to-bytes 8 n) r (now (out .exit)) ⌝ }
 {
-    put(out, at, &n.to_be_bytes())
+    let eight = n.to_be_bytes();
+    put(out, at, &eight)
 }
 
 // Sets every byte to 0.
