@@ -32,5 +32,5 @@ abbrev pub request-with : List ℕ → HeaderRequest → List ℕ → Rq.Request
 request-with k h t =
     record { key = k; id = h .id .now; context = pairs (h .context .now); encrypted-data-keys = data-keys (h .«encrypted_data_keys» .now); frame-length = h .«frame_length»; text = t }
 
-abbrev pub request : Request → Rq.Request
-request r = request-with (r .key .now) (r .header) (r .text .now)
+abbrev pub request-of : Request → Rq.Request
+request-of r = request-with (r .key .now) (r .header) (r .text .now)

@@ -1,8 +1,18 @@
-// Headers of messages to be sealed: what a request says, the checks that it has to pass, how long its header is, and the header
-// written into lent bytes.
-pub mod refusal;
-pub mod request;
+// Headers of messages to be sealed: what a request says, the checks that it has to pass, how long its header is.
+mod checks;
+mod context;
+mod data_keys;
+mod passed;
+mod refusal;
+mod request;
+pub mod suite;
 
+pub use checks::array_32;
+pub use checks::check;
+pub use checks::check_header;
+pub use checks::text_fits;
+pub use passed::Checked;
+pub use passed::CheckedHeader;
 pub use refusal::SealRefusal;
 pub use request::EncryptedDataKey;
 pub use request::HeaderRequest;
