@@ -1,4 +1,5 @@
 // Public test vectors and known messages, run against the library: one line a file, with how many cases came out as expected.
+mod ciphers;
 mod hashes;
 mod words;
 
@@ -11,6 +12,7 @@ enum Suite {
     Sha512,
     Hmac,
     Hkdf,
+    Aes,
 }
 
 impl Suite {
@@ -19,6 +21,7 @@ impl Suite {
             Suite::Sha512 => "sha512.txt",
             Suite::Hmac => "hmac512.txt",
             Suite::Hkdf => "hkdf512.txt",
+            Suite::Aes => "aes256.txt",
         }
     }
 
@@ -28,6 +31,7 @@ impl Suite {
             Suite::Sha512 => hashes::sha512_case(heap, line),
             Suite::Hmac => hashes::hmac_case(heap, line),
             Suite::Hkdf => hashes::hkdf_case(heap, line),
+            Suite::Aes => ciphers::aes_case(heap, line),
         }
     }
 }
@@ -55,7 +59,8 @@ fn run(rt: &LibcRuntime, suite: Suite) -> Result<(), AnyError> {
 fn all(rt: &LibcRuntime) -> Result<(), AnyError> {
     run(rt, Suite::Sha512)?;
     run(rt, Suite::Hmac)?;
-    run(rt, Suite::Hkdf)
+    run(rt, Suite::Hkdf)?;
+    run(rt, Suite::Aes)
 }
 
 fn main(rt: LibcRuntime) -> Result<(), AnyError> {

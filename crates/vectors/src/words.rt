@@ -38,14 +38,15 @@ impl<'a> Words<'a> {
         unhex(heap, self.next()?.as_bytes())
     }
 
-    pub fn key(&mut self, heap: Global) -> Result<[u8; 32], AnyError> {
+    // Bytes of a length that is known: keys, nonces, tags.
+    pub fn fixed<const N: usize>(&mut self, heap: Global) -> Result<[u8; N], AnyError> {
         let bytes = self.bytes(heap)?;
-        if bytes.len() != 32 {
-            return Err("a key of another length".into());
+        if bytes.len() != N {
+            return Err("bytes of another length".into());
         }
-        let mut key = [0u8; 32];
-        key.copy_from_slice(bytes.as_slice());
-        Ok(key)
+        let mut fixed = [0u8; N];
+        fixed.copy_from_slice(bytes.as_slice());
+        Ok(fixed)
     }
 }
 

@@ -1,0 +1,37 @@
+// AES-256 and GCM: one case a line.
+use crate::words::Words;
+use aes256::RoundKeys;
+use aes256::encrypt_block;
+use aes256::expand_key;
+use std::alloc::Global;
+use std::error::AnyError;
+
+// Each block apart.
+pub fn aes_case(heap: Global, line: &str) -> Result<bool, AnyError> {
+    let mut words = Words::of(line);
+    let keys = expand_key(&words.fixed::<32>(heap)?);
+    let blocks = words.bytes(heap)?;
+    let expected = words.bytes(heap)?;
+    if blocks.len() != expected.len() || blocks.len() % 16 != 0 {
+        return Err("not whole blocks".into());
+    }
+    let mut right = true;
+    for i in 0..blocks.len() / 16 {
+        let at = 16 * i;
+        right &= block_is(
+            &keys,
+            &blocks.as_slice()[at..at + 16],
+            &expected.as_slice()[at..at + 16],
+        );
+    }
+    Ok(right)
+}
+
+fn block_is(keys: &RoundKeys, block: &[u8], expected: &[u8]) -> bool {
+    let mut plain = [0u8; 16];
+    if block.len() != 16 {
+        return false;
+    }
+    plain.copy_from_slice(block);
+    encrypt_block(keys, plain).as_slice() == expected
+}
