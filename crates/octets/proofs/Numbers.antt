@@ -9,7 +9,7 @@ use lib.Arith.{mod-mul}
 use lib.Dec.{eqb, ltb}
 use lib.ListN as L
 use lib.ListN.{length, getD, length-append}
-use lib.Seq.{drop-cons, take-all}
+use lib.Seq.{drop-cons}
 use Rattle.std.proofs.shelf.Tests.{and-parts, and-from, ltb-true, lt-ltb, eqb-true, eq-eqb}
 use Rattle.octets.specs.Bytes.{bytes-eq, take, drop, to-bytes, number, of-bytes, all-bytes}
 
@@ -185,20 +185,20 @@ read-from-is i zero bs h = refl
 read-from-is i (suc n) bs h =
     ap (λ xs. getD bs i 0 ∷ xs) (read-from-is (suc i) n bs (omega arith)) ∙ ap (λ xs. L.take (suc n) xs) (sym (drop-cons bs i 0 (omega arith)))
 
-pub first-2 : (bs : List ℕ) → 2 ≤ length bs → getD bs 0 0 ∷ (getD bs 1 0 ∷ []) ≡ L.take 2 bs
+first-2 : (bs : List ℕ) → 2 ≤ length bs → getD bs 0 0 ∷ (getD bs 1 0 ∷ []) ≡ L.take 2 bs
 unfolding read-from
 first-2 bs h = read-from-is 0 2 bs h
 
-pub first-4 : (bs : List ℕ) → 4 ≤ length bs → getD bs 0 0 ∷ (getD bs 1 0 ∷ (getD bs 2 0 ∷ (getD bs 3 0 ∷ []))) ≡ L.take 4 bs
+first-4 : (bs : List ℕ) → 4 ≤ length bs → getD bs 0 0 ∷ (getD bs 1 0 ∷ (getD bs 2 0 ∷ (getD bs 3 0 ∷ []))) ≡ L.take 4 bs
 unfolding read-from
 first-4 bs h = read-from-is 0 4 bs h
 
-pub first-8 : (bs : List ℕ) → 8 ≤ length bs
+first-8 : (bs : List ℕ) → 8 ≤ length bs
     → getD bs 0 0 ∷ (getD bs 1 0 ∷ (getD bs 2 0 ∷ (getD bs 3 0 ∷ (getD bs 4 0 ∷ (getD bs 5 0 ∷ (getD bs 6 0 ∷ (getD bs 7 0 ∷ []))))))) ≡ L.take 8 bs
 unfolding read-from
 first-8 bs h = read-from-is 0 8 bs h
 
--- a number of so many bytes, as a sum
+-- the number in the first so many bytes, as a sum
 sum-2 : (a b : ℕ) → a * 256 + b ≡ of-bytes (a ∷ (b ∷ []))
 unfolding number
 sum-2 a b = omega arith
@@ -211,12 +211,12 @@ sum-8 : (a b c d e f g h : ℕ) → a * 72057594037927936 + b * 281474976710656 
 unfolding number
 sum-8 a b c d e f g h = omega arith
 
-pub of-bytes-2 : (bs : List ℕ) → length bs ≡ 2 → getD bs 0 0 * 256 + getD bs 1 0 ≡ of-bytes bs
-of-bytes-2 bs h = sum-2 _ _ ∙ ap (λ xs. number 0 xs) (first-2 bs (omega arith) ∙ take-all 2 bs (omega arith))
+pub of-first-2 : (bs : List ℕ) → 2 ≤ length bs → getD bs 0 0 * 256 + getD bs 1 0 ≡ of-bytes (L.take 2 bs)
+of-first-2 bs h = sum-2 _ _ ∙ ap (λ xs. number 0 xs) (first-2 bs h)
 
-pub of-bytes-4 : (bs : List ℕ) → length bs ≡ 4 → getD bs 0 0 * 16777216 + getD bs 1 0 * 65536 + getD bs 2 0 * 256 + getD bs 3 0 ≡ of-bytes bs
-of-bytes-4 bs h = sum-4 _ _ _ _ ∙ ap (λ xs. number 0 xs) (first-4 bs (omega arith) ∙ take-all 4 bs (omega arith))
+pub of-first-4 : (bs : List ℕ) → 4 ≤ length bs → getD bs 0 0 * 16777216 + getD bs 1 0 * 65536 + getD bs 2 0 * 256 + getD bs 3 0 ≡ of-bytes (L.take 4 bs)
+of-first-4 bs h = sum-4 _ _ _ _ ∙ ap (λ xs. number 0 xs) (first-4 bs h)
 
-pub of-bytes-8 : (bs : List ℕ) → length bs ≡ 8
-    → getD bs 0 0 * 72057594037927936 + getD bs 1 0 * 281474976710656 + getD bs 2 0 * 1099511627776 + getD bs 3 0 * 4294967296 + getD bs 4 0 * 16777216 + getD bs 5 0 * 65536 + getD bs 6 0 * 256 + getD bs 7 0 ≡ of-bytes bs
-of-bytes-8 bs h = sum-8 _ _ _ _ _ _ _ _ ∙ ap (λ xs. number 0 xs) (first-8 bs (omega arith) ∙ take-all 8 bs (omega arith))
+pub of-first-8 : (bs : List ℕ) → 8 ≤ length bs
+    → getD bs 0 0 * 72057594037927936 + getD bs 1 0 * 281474976710656 + getD bs 2 0 * 1099511627776 + getD bs 3 0 * 4294967296 + getD bs 4 0 * 16777216 + getD bs 5 0 * 65536 + getD bs 6 0 * 256 + getD bs 7 0 ≡ of-bytes (L.take 8 bs)
+of-first-8 bs h = sum-8 _ _ _ _ _ _ _ _ ∙ ap (λ xs. number 0 xs) (first-8 bs h)

@@ -1,6 +1,5 @@
 // Bytes and big-endian numbers, read from the front of lent bytes.
 ghost use mathlib.Core.Path.{_≡_};
-ghost use Rattle.octets.specs.Bytes.{of-bytes};
 ghost use Rattle.octets.specs.Cut.{cut, cuts, cut-number, number-cuts};
 
 // The first n bytes and the rest; None where there are fewer.
@@ -13,34 +12,15 @@ pub fn cut(bytes: &[u8], n: usize) -> Option<(&[u8], &[u8])>
     Some(bytes.split_at(n))
 }
 
-// A number in its bytes, the high one first.
-pub fn be_u16(bytes: &[u8; 2]) -> u16
-    ensures value { λ r. ⌜ r ≡ of-bytes (now (bytes .entry)) ⌝ }
-{
-    u16::from_be_bytes(*bytes)
-}
-
-pub fn be_u32(bytes: &[u8; 4]) -> u32
-    ensures value { λ r. ⌜ r ≡ of-bytes (now (bytes .entry)) ⌝ }
-{
-    u32::from_be_bytes(*bytes)
-}
-
-pub fn be_u64(bytes: &[u8; 8]) -> u64
-    ensures value { λ r. ⌜ r ≡ of-bytes (now (bytes .entry)) ⌝ }
-{
-    u64::from_be_bytes(*bytes)
-}
-
-// A number off the front and the rest; None where there are fewer bytes than it has.
+// A big-endian number off the front and the rest; None where there are fewer bytes than it has.
 pub fn cut_u16(bytes: &[u8]) -> Option<(u16, &[u8])>
     ensures value { λ r. ⌜ number-cuts r ≡ cut-number 2 (now (bytes .entry)) ⌝ }
 {
     if bytes.len() < 2 {
         return None;
     }
-    let front = [bytes[0], bytes[1]];
-    Some((be_u16(&front), &bytes[2..]))
+    let n = u16::from_be_bytes([bytes[0], bytes[1]]);
+    Some((n, &bytes[2..]))
 }
 
 pub fn cut_u32(bytes: &[u8]) -> Option<(u32, &[u8])>
@@ -49,8 +29,8 @@ pub fn cut_u32(bytes: &[u8]) -> Option<(u32, &[u8])>
     if bytes.len() < 4 {
         return None;
     }
-    let front = [bytes[0], bytes[1], bytes[2], bytes[3]];
-    Some((be_u32(&front), &bytes[4..]))
+    let n = u32::from_be_bytes([bytes[0], bytes[1], bytes[2], bytes[3]]);
+    Some((n, &bytes[4..]))
 }
 
 pub fn cut_u64(bytes: &[u8]) -> Option<(u64, &[u8])>
@@ -59,7 +39,7 @@ pub fn cut_u64(bytes: &[u8]) -> Option<(u64, &[u8])>
     if bytes.len() < 8 {
         return None;
     }
-    let front = [
+    let n = u64::from_be_bytes([
         bytes[0],
         bytes[1],
         bytes[2],
@@ -68,6 +48,6 @@ pub fn cut_u64(bytes: &[u8]) -> Option<(u64, &[u8])>
         bytes[5],
         bytes[6],
         bytes[7],
-    ];
-    Some((be_u64(&front), &bytes[8..]))
+    ]);
+    Some((n, &bytes[8..]))
 }

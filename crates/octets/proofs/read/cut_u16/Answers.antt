@@ -1,13 +1,12 @@
-use mathlib.Core.Path.{_∙_, ap}
+use mathlib.Core.Path.{_∙_}
 use native.Mathlib.Omega.{arith}
 use Rattle.std.proofs.shelf.Lists.{take-rest}
-use Rattle.octets.specs.Bytes.{number}
 use Rattle.octets.proofs.Cuts.{number-cut-some, number-cut-none}
-use Rattle.octets.proofs.Numbers.{first-2}
+use Rattle.octets.proofs.Numbers.{of-first-2}
 use Rattle.octets.proofs.read.cut_u16.Needs as need
 
 pub returns-then-bytes-lt2 : need.returns-then-bytes-lt2
 returns-then-bytes-lt2 c = record { value = number-cut-none 2 (c .args .bytes .now) (omega arith) }
 
 pub returns : need.returns
-returns c = record { value = number-cut-some 2 (c .args .bytes .now) _ _ (omega arith) (c .be-u16 .ensures .value ∙ ap (λ xs. number 0 xs) (first-2 (c .args .bytes .now) (omega arith))) (take-rest (c .args .bytes .now) 2) }
+returns c = record { value = number-cut-some 2 (c .args .bytes .now) _ _ (omega arith) (c .from-be-bytes-n .ensures ∙ of-first-2 (c .args .bytes .now) (omega arith)) (take-rest (c .args .bytes .now) 2) }

@@ -1,13 +1,12 @@
-use mathlib.Core.Path.{_∙_, ap}
+use mathlib.Core.Path.{_∙_}
 use native.Mathlib.Omega.{arith}
 use Rattle.std.proofs.shelf.Lists.{take-rest}
-use Rattle.octets.specs.Bytes.{number}
 use Rattle.octets.proofs.Cuts.{number-cut-some, number-cut-none}
-use Rattle.octets.proofs.Numbers.{first-8}
+use Rattle.octets.proofs.Numbers.{of-first-8}
 use Rattle.octets.proofs.read.cut_u64.Needs as need
 
 pub returns-then-bytes-lt8 : need.returns-then-bytes-lt8
 returns-then-bytes-lt8 c = record { value = number-cut-none 8 (c .args .bytes .now) (omega arith) }
 
 pub returns : need.returns
-returns c = record { value = number-cut-some 8 (c .args .bytes .now) _ _ (omega arith) (c .be-u64 .ensures .value ∙ ap (λ xs. number 0 xs) (first-8 (c .args .bytes .now) (omega arith))) (take-rest (c .args .bytes .now) 8) }
+returns c = record { value = number-cut-some 8 (c .args .bytes .now) _ _ (omega arith) (c .from-be-bytes-n .ensures ∙ of-first-8 (c .args .bytes .now) (omega arith)) (take-rest (c .args .bytes .now) 8) }
