@@ -1,3 +1,4 @@
 pub mod Decimals
 pub mod Digits
 pub mod Splits
+pub mod Words
