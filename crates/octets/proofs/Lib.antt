@@ -3,4 +3,5 @@ mod Compared
 pub mod Cuts
 pub mod Lists
 pub mod Numbers
+pub mod Order
 pub mod Splice
