@@ -1,4 +1,3 @@
-pub mod Context
 pub mod Hex
 pub mod Number
 pub mod Options
