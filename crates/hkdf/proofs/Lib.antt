@@ -1,1 +1,2 @@
 pub mod BlockKey
+pub mod Answered

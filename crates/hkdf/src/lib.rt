@@ -1,6 +1,7 @@
 // Keys from keys: HMAC and HKDF over SHA-512, and the two keys of a message, each equal to its definition for every input.
 mod kdf;
 mod keys;
+mod known;
 mod mac;
 
 pub use kdf::TooLong;
