@@ -1,3 +1,4 @@
 pub mod Rising
 pub mod Lengths
 pub mod Refusals
+pub mod Writes

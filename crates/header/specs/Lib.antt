@@ -1,3 +1,4 @@
 pub mod Refusal
 pub mod Models
 pub mod Checked
+pub mod Written

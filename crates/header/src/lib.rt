@@ -1,4 +1,5 @@
-// Headers of messages to be sealed: what a request says, the checks that it has to pass, how long its header is.
+// Headers of messages to be sealed: what a request says, the checks that it has to pass, how long its header is, and the header
+// written into lent bytes.
 mod checks;
 mod context;
 mod data_keys;
@@ -6,6 +7,7 @@ mod passed;
 mod refusal;
 mod request;
 pub mod suite;
+mod write;
 
 pub use checks::array_32;
 pub use checks::check;
@@ -18,3 +20,4 @@ pub use request::EncryptedDataKey;
 pub use request::HeaderRequest;
 pub use request::Pair;
 pub use request::Request;
+pub use write::write_header;

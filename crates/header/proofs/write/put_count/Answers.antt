@@ -1,0 +1,6 @@
+use native.Mathlib.Omega.{arith}
+use Rattle.octets.proofs.Numbers.{length-to-bytes}
+use Rattle.header.proofs.write.put_count.Needs as need
+
+pub unreachable-requires : need.unreachable-requires
+unreachable-requires c κs = absurd (omega (arith, c .in-rest .ensures tt .value .lacks, length-to-bytes 2 (c .args .n)))
