@@ -5,3 +5,4 @@ pub mod RoundBytes
 pub mod ScheduleWords
 pub mod KeyOf
 pub mod PrintedValues
+pub mod Lengths

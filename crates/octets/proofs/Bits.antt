@@ -97,3 +97,39 @@ xor3 w {a} {b} p q r ha hb hc = xor2 w (xor2 w p q ha hb) r (xor-lt w a b ha hb)
 
 pub and2 : (w : ℕ) (a b : ℕ) → a < 2 ^ w → b < 2 ^ w → bitAnd a b ≡ bit-and w a b
 and2 w a b ha hb = sym (bit-and-is w a b ha hb)
+
+-- the same mask twice
+abbrev apart : ℕ → ℕ → ℕ
+apart x y = pick (eqb x y) 0 1
+
+pick-bit : (b : Bool) → pick b 0 1 < 2
+unfolding pick
+pick-bit true = omega arith
+pick-bit false = omega arith
+
+apart-lt : (x y : ℕ) → apart x y < 2
+apart-lt x y = pick-bit (eqb x y)
+
+apart-twice : (x y : ℕ) → x < 2 → y < 2 → apart (apart x y) y ≡ x
+unfolding pick
+apart-twice zero zero hx hy = refl
+apart-twice zero (suc zero) hx hy = refl
+apart-twice (suc zero) zero hx hy = refl
+apart-twice (suc zero) (suc zero) hx hy = refl
+apart-twice zero (suc (suc y)) hx hy = omega arith
+apart-twice (suc zero) (suc (suc y)) hx hy = omega arith
+apart-twice (suc (suc x)) y hx hy = omega arith
+
+pub bit-xor-twice : (n a k : ℕ) → a < 2 ^ n → bit-xor n (bit-xor n a k) k ≡ a
+unfolding bit-xor
+bit-xor-twice zero a k h = omega arith
+bit-xor-twice (suc n) a k h =
+    let d : ℕ = apart (a % 2) (k % 2) in
+    let r : ℕ = bit-xor n (a / 2) (k / 2) in
+    let hd : d < 2 = apart-lt (a % 2) (k % 2) in
+    let hr : a / 2 < 2 ^ n = omega (arith, pow-suc 2 n) in
+    let e : (d + 2 * r) % 2 ≡ d = omega arith in
+    let f : (d + 2 * r) / 2 ≡ r = omega arith in
+    let g : apart d (k % 2) ≡ a % 2 = apart-twice (a % 2) (k % 2) (omega arith) (omega arith) in
+    let i : bit-xor n r (k / 2) ≡ a / 2 = bit-xor-twice n (a / 2) (k / 2) hr in
+    ap₂ (λ x y. apart x (k % 2) + 2 * bit-xor n y (k / 2)) e f ∙ (ap₂ (λ x y. x + 2 * y) g i ∙ omega arith)

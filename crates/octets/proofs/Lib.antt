@@ -5,3 +5,4 @@ pub mod Lists
 pub mod Numbers
 pub mod Order
 pub mod Splice
+pub mod XorBytes
