@@ -1,1 +1,4 @@
 pub mod Gcm
+pub mod Key
+pub mod Calls
+pub mod Statements

@@ -1,0 +1,4 @@
+pub mod Calls
+pub mod Streams
+pub mod Tags
+pub mod Undo
