@@ -1,8 +1,7 @@
 -- A round on four words is a round on their sixteen bytes, and the rounds one after the other are the cipher.
 use mathlib.Core.Path.{_≡_, refl, sym, ap, ap₂, _∙_}
 use mathlib.Core.List.{List, [], _∷_, _++_, map}
-use Prim.Native.Nat.{ℕ, zero, suc, _+_, _*_, _/_, _%_, _<_, _≤_}
-use native.Mathlib.Omega.{arith}
+use Prim.Native.Nat.{ℕ, suc, _+_, _/_, _%_, _<_, _≤_}
 use lib.Bits.{bitXor}
 use lib.ListN.{length, getD, drop as ldrop}
 use Rattle.octets.specs.Bytes.{nth, drop, xor-bytes}

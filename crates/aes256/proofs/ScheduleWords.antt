@@ -1,20 +1,19 @@
 -- The key schedule on words is the one on lists of four bytes.
 use mathlib.Core.Path.{_≡_, refl, sym, ap, ap₂, _∙_}
-use mathlib.Core.List.{List, [], _∷_, _++_, append-assoc, append-nil}
-use mathlib.Core.Bool.{Bool, true, false}
+use mathlib.Core.List.{List, [], _∷_, _++_, append-assoc}
+use mathlib.Core.Bool.{Bool}
 use mathlib.Core.Logic.{_≢_}
-use Prim.Native.Nat.{ℕ, zero, suc, _+_, _*_, _-_, _/_, _%_, _^_, _<_, _≤_}
+use Prim.Native.Nat.{ℕ, zero, suc, _+_, _*_, _-_, _/_, _%_, _<_, _≤_}
 use native.Mathlib.Omega.{arith}
 use native.Mathlib.Numerals.{add-one}
 use lib.Dec.{eqb, lit<}
 use lib.Bits.{bitXor, bitOr, or-shifted, xor-zero-r}
-use lib.ListN.{length, getD, set, take as ltake, drop as ldrop}
+use lib.ListN.{length, getD, set, take as ltake}
 use borrow.Author.Tests.{eq-eqb, ne-eqb}
-use Rattle.std.proofs.shelf.Lists.{take-more, take-all, getD-set-same, getD-set-other}
+use Rattle.std.proofs.shelf.Lists.{take-more, getD-set-same, getD-set-other}
 use Rattle.octets.specs.Bits.{pick}
 use Rattle.octets.specs.Bytes.{nth, take, drop, xor-bytes}
-use Rattle.octets.proofs.Lists.{take-is, length-take}
-use Rattle.aes256.specs.Aes.{sub-byte, sub-bytes, rot-word, rcon, word-at, next-word, expand-words, key-words, joined, round-keys}
+use Rattle.aes256.specs.Aes.{sub-byte, sub-bytes, rot-word, rcon, word-at, expand-words, key-words, joined}
 use Rattle.aes256.specs.Columns.{word, word-bytes, words-bytes, sub-word}
 use Rattle.aes256.specs.Schedule.{next-of, words-upto}
 use Rattle.aes256.proofs.WordBytes.{bytes-of-word, word-of-bytes, words-bytes-append, first-eight}
@@ -41,9 +40,6 @@ rcon-lt : (n : ℕ) → rcon n < 256
 unfolding rcon
 rcon-lt zero = lit< tt
 rcon-lt (suc n) = xtime-lt (rcon n)
-
-pub rcon-fits : (n : ℕ) → word (rcon n) 0 0 0 < 4294967296
-rcon-fits n = let h : rcon n < 256 = rcon-lt n in omega arith
 
 pub rcon-bytes : (n : ℕ) → word-bytes (word (rcon n) 0 0 0) ≡ rcon n ∷ (0 ∷ (0 ∷ (0 ∷ [])))
 rcon-bytes n = bytes-of-word (rcon n) 0 0 0 (rcon-lt n) (lit< tt) (lit< tt) (lit< tt)

@@ -1,9 +1,9 @@
 // One block encrypted.
 ghost use mathlib.Core.Path.{_≡_};
 ghost use mathlib.Core.List.{[], _∷_};
-ghost use Prim.Native.Nat.{ℕ, _+_, _*_, _<_};
+ghost use Prim.Native.Nat.{_+_, _*_, _<_};
 ghost use lib.Bits.{bitXor};
-ghost use lib.ListN.{length, getD};
+ghost use lib.ListN.{getD};
 ghost use Rattle.octets.specs.Bytes.{xor-bytes};
 ghost use Rattle.aes256.specs.Aes.{aes, round-keys};
 ghost use Rattle.aes256.specs.Columns.{word, words-bytes};

@@ -1,7 +1,7 @@
 // The key schedule.
 ghost use mathlib.Core.Path.{_≡_};
-ghost use Prim.Native.Nat.{ℕ, _+_, _*_, _<_, _≤_};
-ghost use lib.ListN.{length, getD};
+ghost use Prim.Native.Nat.{_+_, _*_, _<_, _≤_};
+ghost use lib.ListN.{getD};
 ghost use Rattle.octets.specs.Bytes.{take, repeat};
 ghost use Rattle.aes256.specs.Aes.{round-keys};
 ghost use Rattle.aes256.specs.Columns.{word, word-bytes, words-bytes};

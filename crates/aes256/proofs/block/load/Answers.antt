@@ -1,9 +1,9 @@
 use mathlib.Core.Path.{_≡_, ap, ap₂, _∙_}
 use mathlib.Core.List.{List, [], _∷_}
-use Prim.Native.Nat.{ℕ, _<_}
+use Prim.Native.Nat.{ℕ}
 use native.Mathlib.Omega.{arith}
 use borrow.Author.Needs.{needs}
-use lib.ListN.{length, getD}
+use lib.ListN.{length}
 use Rattle.aes256.specs.Columns.{words-bytes}
 use Rattle.aes256.proofs.RoundBytes.{load-is}
 use Rattle.aes256.proofs.block.load.Needs as need

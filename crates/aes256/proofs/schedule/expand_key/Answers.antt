@@ -1,4 +1,4 @@
-use mathlib.Core.Path.{_≡_, ap, _∙_}
+use mathlib.Core.Path.{ap, _∙_}
 use Rattle.aes256.specs.Columns.{words-bytes}
 use Rattle.aes256.specs.RoundKeys.{key-of}
 use Rattle.aes256.proofs.schedule.expand_key.Needs as need

@@ -1,6 +1,6 @@
 use mathlib.Core.Path.{_≡_}
 use mathlib.Core.List.{_++_}
-use Prim.Native.Nat.{ℕ, _*_}
+use Prim.Native.Nat.{_*_}
 use lib.ListN.{length, take, drop}
 use Rattle.aes256.specs.Columns.{words-bytes}
 use Rattle.aes256.proofs.schedule.first_words.Given as given

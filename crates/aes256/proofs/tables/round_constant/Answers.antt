@@ -1,4 +1,3 @@
-use Prim.Native.Nat.{_<_}
 use native.Mathlib.Omega.{arith}
 use Rattle.octets.specs.Bits.{pick}
 use Rattle.aes256.specs.Aes.{rcon}

@@ -1,4 +1,3 @@
-use Prim.Native.Nat.{_<_}
 use native.Mathlib.Omega.{arith}
 use Rattle.octets.specs.Bits.{pick, bit-xor, pow2}
 use Rattle.aes256.specs.Field.{mul-steps}

@@ -1,4 +1,4 @@
-use mathlib.Core.Path.{_≡_, sym, _∙_}
+use mathlib.Core.Path.{sym, _∙_}
 use Rattle.octets.proofs.Lists.{repeat-is}
 use Rattle.aes256.proofs.keys.RoundKeys.wipe.Needs as need
 
