@@ -1,10 +1,11 @@
 // One block of 128 bytes worked into a state of eight words, and many.
 ghost use mathlib.Core.Path.{_≡_};
-ghost use Prim.Native.Nat.{_+_, _/_, _≤_};
+ghost use Prim.Native.Nat.{_+_, _/_, _<_, _≤_};
 ghost use lib.ListN.{length};
 ghost use lib.ListN as L;
 ghost use Rattle.octets.specs.Bytes.{take, drop, of-bytes, reversed};
-ghost use Rattle.sha512.specs.Sha512.{block-words, extend-words, round, add-words, compress-block, hash-blocks};
+ghost use Rattle.sha512.specs.Constants.{constants};
+ghost use Rattle.sha512.specs.Sha512.{block-words, extend-words, round, rounds, add-words, compress-block, hash-blocks};
 use crate::constants::round_constant;
 use crate::words::big_sigma0;
 use crate::words::big_sigma1;
@@ -82,14 +83,37 @@ fn add_words(a: [u64; 8], b: [u64; 8]) -> [u64; 8]
     ]
 }
 
+// the round at a place of the schedule
+fn round_at(s: [u64; 8], w: &[u64], at: usize) -> [u64; 8]
+    requires { ⌜ length (now w) ≡ 80 ⌝ ∗ ⌜ at < 80 ⌝ }
+    ensures { λ r. ⌜ rounds s (L.drop at constants) (L.drop at (now (w .entry))) ≡ rounds r (L.drop (at + 1) constants) (L.drop (at + 1) (now (w .entry))) ⌝ }
+{
+    round(s, round_constant(at), w[at])
+}
+
+// eight rounds, after which each word of the state is back at its place
+fn eight_rounds(s: [u64; 8], w: &[u64], at: usize) -> [u64; 8]
+    requires { ⌜ length (now w) ≡ 80 ⌝ ∗ ⌜ at + 8 ≤ 80 ⌝ }
+    ensures { λ r. ⌜ rounds s (L.drop at constants) (L.drop at (now (w .entry))) ≡ rounds r (L.drop (at + 8) constants) (L.drop (at + 8) (now (w .entry))) ⌝ }
+{
+    let s1 = round_at(s, w, at);
+    let s2 = round_at(s1, w, at + 1);
+    let s3 = round_at(s2, w, at + 2);
+    let s4 = round_at(s3, w, at + 3);
+    let s5 = round_at(s4, w, at + 4);
+    let s6 = round_at(s5, w, at + 5);
+    let s7 = round_at(s6, w, at + 6);
+    round_at(s7, w, at + 7)
+}
+
 pub(crate) fn compress(state: [u64; 8], block: &[u8]) -> [u64; 8]
     requires { ⌜ length (now block) ≡ 128 ⌝ }
     ensures { λ r. ⌜ r ≡ compress-block state (now (block .entry)) ⌝ }
 {
     let w = schedule(block);
     let mut s = state;
-    for i in 0..80 {
-        let next = round(s, round_constant(i), w[i]);
+    for i in 0..10 {
+        let next = eight_rounds(s, &w, 8 * i);
         s = next;
     }
     add_words(state, s)
