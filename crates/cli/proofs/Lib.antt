@@ -1,4 +1,5 @@
 pub mod Decimals
 pub mod Digits
+pub mod Pairs
 pub mod Splits
 pub mod Words

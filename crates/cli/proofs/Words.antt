@@ -9,7 +9,7 @@ use lib.Chars.{codes}
 use lib.Dec.{eqb}
 use lib.ListN.{length, getD, drop}
 use Rattle.std.proofs.shelf.Equals.{sameBytes-decides}
-use Rattle.std.proofs.shelf.Lists.{drop-more, drop-all, map-push}
+use Rattle.std.proofs.shelf.Lists.{drop-more, drop-all, map-push, at-drop-more, at-drop-all}
 use Rattle.std.proofs.shelf.Tests.{cases-bool, ne-eqb, eq-eqb, cond-true, cond-false}
 use Rattle.std.specs.declared.option.Option.{Option}
 use Rattle.std.specs.declared.option.Option.the-variants.{Some, None}
@@ -20,6 +20,7 @@ use Rattle.std.specs.Of.String.{string-bytes}
 use Rattle.std.specs.shelf.Text.{sameBytes}
 use Rattle.cli.specs.declared.options.Program.{Program}
 use Rattle.cli.specs.declared.options.Kind.{Kind}
+use Rattle.cli.specs.declared.options.Kind.the-variants as kinds
 use Rattle.cli.specs.declared.options.Kind.the-variants.{Operand}
 use Rattle.cli.specs.declared.scan.Expects.{Expects}
 use Rattle.cli.specs.declared.scan.Expects.the-variants as expects
@@ -27,7 +28,7 @@ use Rattle.cli.specs.declared.scan.Expects.the-variants.{Word, ValueOf}
 use Rattle.cli.specs.declared.scan.Step.{Step}
 use Rattle.cli.specs.declared.scan.Given.{Given}
 use Rattle.cli.specs.Options.{option-of, takes, takes-value}
-use Rattle.cli.specs.Scan.{Item, Fault, unknown, no-value, item, item-before, at-end, go-on, step-of, word-step, option-step, scan-from, words-of}
+use Rattle.cli.specs.Scan.{Item, Fault, unknown, no-value, item, item-before, at-end, go-on, step-of, word-step, option-step, scan-from, words-of, rank, texts}
 
 pub not-same : (xs ys : List ℕ) → (xs ≡ ys → ⊥) → sameBytes xs ys ≡ false
 not-same xs ys h = ⊎-elim (λ t. absurd (h (sameBytes-decides xs ys .0 t))) (λ f. f) (cases-bool (sameBytes xs ys))
@@ -129,3 +130,49 @@ words-done program e ws i done h n = ap (items-before done) (words-end program e
     ended Word m = refl
     ended (ValueOf k) m = absurd (m k refl)
     ended expects.Operand m = refl
+
+-- a kind by its place
+unrank : ℕ → Kind
+unrank zero = kinds.Key
+unrank (suc zero) = kinds.DataKey
+unrank (suc (suc zero)) = kinds.Context
+unrank (suc (suc (suc zero))) = kinds.FrameLength
+unrank (suc (suc (suc (suc zero)))) = kinds.Id
+unrank (suc (suc (suc (suc (suc zero))))) = kinds.Header
+unrank (suc (suc (suc (suc (suc (suc zero)))))) = kinds.Force
+unrank (suc (suc (suc (suc (suc (suc (suc zero))))))) = kinds.Help
+unrank (suc (suc (suc (suc (suc (suc (suc (suc zero)))))))) = kinds.Version
+unrank (suc (suc (suc (suc (suc (suc (suc (suc (suc n))))))))) = kinds.Operand
+
+unrank-rank : (k : Kind) → unrank (rank k) ≡ k
+unfolding unrank
+unrank-rank kinds.Key = refl
+unrank-rank kinds.DataKey = refl
+unrank-rank kinds.Context = refl
+unrank-rank kinds.FrameLength = refl
+unrank-rank kinds.Id = refl
+unrank-rank kinds.Header = refl
+unrank-rank kinds.Force = refl
+unrank-rank kinds.Help = refl
+unrank-rank kinds.Version = refl
+unrank-rank kinds.Operand = refl
+
+same-rank : (a b : Kind) → rank a ≡ rank b → a ≡ b
+same-rank a b e = sym (unrank-rank a) ∙ (ap unrank e ∙ unrank-rank b)
+
+-- a turn over what was given, of the kind and of another
+pub text-more : (k : Kind) (gs : List Given) (i : ℕ) (d : Given) (done : List (List ℕ)) → i < length gs → getD gs i d .kind ≡ k
+    → (done ++ (getD gs i d .text .now ∷ [])) ++ texts k (map item (drop (i + 1) gs)) ≡ done ++ texts k (map item (drop i gs))
+unfolding texts
+text-more k gs i d done h e =
+    append-assoc done (getD gs i d .text .now ∷ []) (texts k (map item (drop (i + 1) gs)))
+    ∙ ap (λ ts. done ++ ts) (sym (at-drop-more (λ xs. texts k (map item xs)) gs i d h ∙ cond-true _ _ _ (eq-eqb (rank (getD gs i d .kind)) (rank k) (ap rank e))))
+
+pub text-passed : (k : Kind) (gs : List Given) (i : ℕ) (d : Given) (done : List (List ℕ)) → i < length gs → (getD gs i d .kind ≡ k → ⊥) → done ++ texts k (map item (drop (i + 1) gs)) ≡ done ++ texts k (map item (drop i gs))
+unfolding texts
+text-passed k gs i d done h n =
+    ap (λ ts. done ++ ts) (sym (at-drop-more (λ xs. texts k (map item xs)) gs i d h ∙ cond-false _ _ _ (ne-eqb (rank (getD gs i d .kind)) (rank k) (λ e. n (same-rank (getD gs i d .kind) k e)))))
+
+pub texts-end : (k : Kind) (gs : List Given) (i : ℕ) (done : List (List ℕ)) → length gs ≤ i → done ≡ done ++ texts k (map item (drop i gs))
+unfolding texts
+texts-end k gs i done h = sym (append-nil done) ∙ ap (λ ts. done ++ ts) (sym (at-drop-all (λ xs. texts k (map item xs)) gs i h))

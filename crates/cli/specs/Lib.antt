@@ -1,3 +1,4 @@
+pub mod Context
 pub mod Hex
 pub mod Number
 pub mod Options

@@ -6,6 +6,7 @@ use Prim.Native.Nat.{ℕ}
 use lib.Chars.{codes}
 use lib.Dec.{eqb}
 use lib.ListN.{getD}
+use denote.Ref.{RefT}
 use Rattle.std.specs.declared.option.Option.{Option}
 use Rattle.std.specs.declared.option.Option.the-variants.{Some, None}
 use Rattle.std.specs.declared.result.Result.{Result}
@@ -17,6 +18,7 @@ use Rattle.std.specs.Of.Vec.{vec-items}
 use Rattle.std.specs.shelf.Text.{sameBytes}
 use Rattle.cli.specs.declared.options.Program.{Program}
 use Rattle.cli.specs.declared.options.Kind.{Kind}
+use Rattle.cli.specs.declared.options.Kind.the-variants as kinds
 use Rattle.cli.specs.declared.options.Kind.the-variants.{Operand}
 use Rattle.cli.specs.declared.scan.Expects.{Expects}
 use Rattle.cli.specs.declared.scan.Expects.the-variants as expects
@@ -83,3 +85,24 @@ Scans (Ok v) r = r ≡ Ok (map item (vec-items v))
 Scans (Err (Unknown w)) r = r ≡ Err (unknown (w .now))
 Scans (Err (NoValue k)) r = r ≡ Err (no-value k)
 Scans (Err Memory) r = Unit {0}
+
+-- a kind's place among the kinds, which tells it from the others
+abbrev pub rank : Kind → ℕ
+rank kinds.Key = 0
+rank kinds.DataKey = 1
+rank kinds.Context = 2
+rank kinds.FrameLength = 3
+rank kinds.Id = 4
+rank kinds.Header = 5
+rank kinds.Force = 6
+rank kinds.Help = 7
+rank kinds.Version = 8
+rank kinds.Operand = 9
+
+-- the texts of one kind
+unfoldable pub texts : Kind → List Item → List (List ℕ)
+texts k [] = []
+texts k (i ∷ is) = cond (eqb (rank (i .kind)) (rank k)) (i .text ∷ texts k is) (texts k is)
+
+abbrev pub now-of : RefT (List ℕ) → List ℕ
+now-of r = r .now

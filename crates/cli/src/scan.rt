@@ -1,10 +1,14 @@
 // The words of a command line, each with what it is for.
 ghost use mathlib.Core.Path.{_≡_};
+ghost use mathlib.Core.List.{map};
 ghost use Rattle.std.specs.Of.Vec.{vec-items};
+ghost use Rattle.std.specs.Vec.{made};
 ghost use Rattle.cli.specs.Options.{option-of};
-ghost use Rattle.cli.specs.Scan.{step-of, option-step, scan-from, words-of, Scans};
+ghost use Rattle.cli.specs.Scan.{step-of, option-step, scan-from, words-of, Scans, texts, item, now-of};
 use crate::options::Kind;
+use crate::options::KindPartialEq;
 use crate::options::Program;
+use std::alloc::AllocError;
 use std::alloc::Global;
 
 // A word with what it is for: an option's value, an option that takes none, or a file.
@@ -114,6 +118,19 @@ pub fn scan<'a>(
     }
     if let Expects::ValueOf(kind) = expects {
         return Err(ScanError::NoValue(kind));
+    }
+    Ok(all)
+}
+
+// What was given of one kind, in the order of the words.
+pub fn values<'a>(heap: Global, given: &[Given<'a>], kind: Kind) -> Result<Vec<&'a str>, AllocError>
+    ensures value { λ r. ⌜ made r (λ v. map now-of (vec-items v) ≡ texts kind (map item (now (given .entry)))) ⌝ }
+{
+    let mut all = Vec::new(heap);
+    for one in given {
+        if one.kind == kind {
+            all.push(one.text)?;
+        }
     }
     Ok(all)
 }
