@@ -3,6 +3,7 @@ use crate::words::Words;
 use aes256::RoundKeys;
 use aes256::encrypt_block;
 use aes256::expand_key;
+use gcm::Key;
 use std::alloc::Global;
 use std::error::AnyError;
 
@@ -34,4 +35,47 @@ fn block_is(keys: &RoundKeys, block: &[u8], expected: &[u8]) -> bool {
     }
     plain.copy_from_slice(block);
     encrypt_block(keys, plain).as_slice() == expected
+}
+
+// Both directions where the tag is right; opening alone, which has to refuse and leave the bytes, where it isn't.
+pub fn gcm_case(heap: Global, line: &str) -> Result<bool, AnyError> {
+    let mut words = Words::of(line);
+    let key = Key::new(&words.fixed::<32>(heap)?);
+    let nonce = words.fixed::<12>(heap)?;
+    let aad = words.bytes(heap)?;
+    let sealed = words.bytes(heap)?;
+    let tag = words.fixed::<16>(heap)?;
+    let right = words.next()? == "ok";
+    let mut out = vec![in heap; 0u8; sealed.len()]?;
+    let opened = gcm::open(
+        &key,
+        &nonce,
+        aad.as_slice(),
+        sealed.as_slice(),
+        &tag,
+        out.as_mut_slice(),
+    );
+    if !right {
+        return Ok(!opened && all_zero(out.as_slice()));
+    }
+    let text = words.bytes(heap)?;
+    if !opened || out.as_slice() != text.as_slice() {
+        return Ok(false);
+    }
+    let made = gcm::seal(
+        &key,
+        &nonce,
+        aad.as_slice(),
+        text.as_slice(),
+        out.as_mut_slice(),
+    );
+    Ok(made == Some(tag) && out.as_slice() == sealed.as_slice())
+}
+
+fn all_zero(bytes: &[u8]) -> bool {
+    let mut any = 0u8;
+    for b in bytes {
+        any |= *b;
+    }
+    any == 0
 }

@@ -13,6 +13,7 @@ enum Suite {
     Hmac,
     Hkdf,
     Aes,
+    Gcm,
 }
 
 impl Suite {
@@ -22,6 +23,7 @@ impl Suite {
             Suite::Hmac => "hmac512.txt",
             Suite::Hkdf => "hkdf512.txt",
             Suite::Aes => "aes256.txt",
+            Suite::Gcm => "gcm.txt",
         }
     }
 
@@ -32,6 +34,7 @@ impl Suite {
             Suite::Hmac => hashes::hmac_case(heap, line),
             Suite::Hkdf => hashes::hkdf_case(heap, line),
             Suite::Aes => ciphers::aes_case(heap, line),
+            Suite::Gcm => ciphers::gcm_case(heap, line),
         }
     }
 }
@@ -60,7 +63,8 @@ fn all(rt: &LibcRuntime) -> Result<(), AnyError> {
     run(rt, Suite::Sha512)?;
     run(rt, Suite::Hmac)?;
     run(rt, Suite::Hkdf)?;
-    run(rt, Suite::Aes)
+    run(rt, Suite::Aes)?;
+    run(rt, Suite::Gcm)
 }
 
 fn main(rt: LibcRuntime) -> Result<(), AnyError> {
