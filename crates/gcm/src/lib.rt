@@ -4,7 +4,7 @@ mod counter;
 mod key;
 mod piece;
 mod tag;
-mod theorem;
+pub mod theorem;
 
 pub use key::Key;
 pub use piece::open;

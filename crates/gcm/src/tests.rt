@@ -6,245 +6,43 @@ use octets::equal;
 use octets::equal_fixed;
 use std::test::*;
 
-const KEY: [u8; 32] = [
-    0xfe,
-    0xff,
-    0xe9,
-    0x92,
-    0x86,
-    0x65,
-    0x73,
-    0x1c,
-    0x6d,
-    0x6a,
-    0x8f,
-    0x94,
-    0x67,
-    0x30,
-    0x83,
-    0x08,
-    0xfe,
-    0xff,
-    0xe9,
-    0x92,
-    0x86,
-    0x65,
-    0x73,
-    0x1c,
-    0x6d,
-    0x6a,
-    0x8f,
-    0x94,
-    0x67,
-    0x30,
-    0x83,
-    0x08,
-];
+const KEY: &[u8; 32] =
+    b"\xfe\xff\xe9\x92\x86\x65\x73\x1c\x6d\x6a\x8f\x94\x67\x30\x83\x08\xfe\xff\xe9\x92\x86\x65\x73\x1c\x6d\x6a\x8f\x94\x67\x30\x83\x08";
 
-const NONCE: [u8; 12] = [
-    0xca,
-    0xfe,
-    0xba,
-    0xbe,
-    0xfa,
-    0xce,
-    0xdb,
-    0xad,
-    0xde,
-    0xca,
-    0xf8,
-    0x88,
-];
+const NONCE: &[u8; 12] = b"\xca\xfe\xba\xbe\xfa\xce\xdb\xad\xde\xca\xf8\x88";
 
-const AAD: [u8; 20] = [
-    0xfe,
-    0xed,
-    0xfa,
-    0xce,
-    0xde,
-    0xad,
-    0xbe,
-    0xef,
-    0xfe,
-    0xed,
-    0xfa,
-    0xce,
-    0xde,
-    0xad,
-    0xbe,
-    0xef,
-    0xab,
-    0xad,
-    0xda,
-    0xd2,
-];
+const AAD: &[u8; 20] =
+    b"\xfe\xed\xfa\xce\xde\xad\xbe\xef\xfe\xed\xfa\xce\xde\xad\xbe\xef\xab\xad\xda\xd2";
 
-const TEXT: [u8; 60] = [
-    0xd9,
-    0x31,
-    0x32,
-    0x25,
-    0xf8,
-    0x84,
-    0x06,
-    0xe5,
-    0xa5,
-    0x59,
-    0x09,
-    0xc5,
-    0xaf,
-    0xf5,
-    0x26,
-    0x9a,
-    0x86,
-    0xa7,
-    0xa9,
-    0x53,
-    0x15,
-    0x34,
-    0xf7,
-    0xda,
-    0x2e,
-    0x4c,
-    0x30,
-    0x3d,
-    0x8a,
-    0x31,
-    0x8a,
-    0x72,
-    0x1c,
-    0x3c,
-    0x0c,
-    0x95,
-    0x95,
-    0x68,
-    0x09,
-    0x53,
-    0x2f,
-    0xcf,
-    0x0e,
-    0x24,
-    0x49,
-    0xa6,
-    0xb5,
-    0x25,
-    0xb1,
-    0x6a,
-    0xed,
-    0xf5,
-    0xaa,
-    0x0d,
-    0xe6,
-    0x57,
-    0xba,
-    0x63,
-    0x7b,
-    0x39,
-];
+const TEXT: &[u8; 60] =
+    b"\xd9\x31\x32\x25\xf8\x84\x06\xe5\xa5\x59\x09\xc5\xaf\xf5\x26\x9a\x86\xa7\xa9\x53\x15\x34\xf7\xda\x2e\x4c\x30\x3d\x8a\x31\x8a\x72\x1c\x3c\x0c\x95\x95\x68\x09\x53\x2f\xcf\x0e\x24\x49\xa6\xb5\x25\xb1\x6a\xed\xf5\xaa\x0d\xe6\x57\xba\x63\x7b\x39";
 
-const CIPHERTEXT: [u8; 60] = [
-    0x52,
-    0x2d,
-    0xc1,
-    0xf0,
-    0x99,
-    0x56,
-    0x7d,
-    0x07,
-    0xf4,
-    0x7f,
-    0x37,
-    0xa3,
-    0x2a,
-    0x84,
-    0x42,
-    0x7d,
-    0x64,
-    0x3a,
-    0x8c,
-    0xdc,
-    0xbf,
-    0xe5,
-    0xc0,
-    0xc9,
-    0x75,
-    0x98,
-    0xa2,
-    0xbd,
-    0x25,
-    0x55,
-    0xd1,
-    0xaa,
-    0x8c,
-    0xb0,
-    0x8e,
-    0x48,
-    0x59,
-    0x0d,
-    0xbb,
-    0x3d,
-    0xa7,
-    0xb0,
-    0x8b,
-    0x10,
-    0x56,
-    0x82,
-    0x88,
-    0x38,
-    0xc5,
-    0xf6,
-    0x1e,
-    0x63,
-    0x93,
-    0xba,
-    0x7a,
-    0x0a,
-    0xbc,
-    0xc9,
-    0xf6,
-    0x62,
-];
+const CIPHERTEXT: &[u8; 60] =
+    b"\x52\x2d\xc1\xf0\x99\x56\x7d\x07\xf4\x7f\x37\xa3\x2a\x84\x42\x7d\x64\x3a\x8c\xdc\xbf\xe5\xc0\xc9\x75\x98\xa2\xbd\x25\x55\xd1\xaa\x8c\xb0\x8e\x48\x59\x0d\xbb\x3d\xa7\xb0\x8b\x10\x56\x82\x88\x38\xc5\xf6\x1e\x63\x93\xba\x7a\x0a\xbc\xc9\xf6\x62";
 
-const TAG: [u8; 16] = [
-    0x76,
-    0xfc,
-    0x6e,
-    0xce,
-    0x0f,
-    0x4e,
-    0x17,
-    0x68,
-    0xcd,
-    0xdf,
-    0x88,
-    0x53,
-    0xbb,
-    0x2d,
-    0x55,
-    0x1b,
-];
+const TAG: &[u8; 16] = b"\x76\xfc\x6e\xce\x0f\x4e\x17\x68\xcd\xdf\x88\x53\xbb\x2d\x55\x1b";
 
 #[test]
 fn seals() -> Result<(), Fail> {
     let mut out = [0; 60];
-    let tag = seal(&Key::new(&KEY), &NONCE, &AAD, &TEXT, &mut out).ok_or("as long as the text")?;
-    check(equal_fixed(&tag, &TAG))?;
-    check(equal(&out, &CIPHERTEXT))
+    let tag = seal(&Key::new(KEY), NONCE, AAD, TEXT, &mut out).ok_or("as long as the text")?;
+    check(equal_fixed(&tag, TAG))?;
+    check(equal(&out, CIPHERTEXT))
 }
 
 #[test]
 fn opens() -> Result<(), Fail> {
     let mut out = [0; 60];
-    check(open(&Key::new(&KEY), &NONCE, &AAD, &CIPHERTEXT, &TAG, &mut out))?;
-    check(equal(&out, &TEXT))
+    check(open(&Key::new(KEY), NONCE, AAD, CIPHERTEXT, TAG, &mut out))?;
+    check(equal(&out, TEXT))
 }
 
 #[test]
 fn refuses_and_leaves() -> Result<(), Fail> {
-    let key = Key::new(&KEY);
+    let key = Key::new(KEY);
     let mut out = [7; 60];
-    check(!open(&key, &NONCE, &[], &CIPHERTEXT, &TAG, &mut out))?;
-    check(!open(&key, &NONCE, &AAD, &CIPHERTEXT[1..], &TAG, &mut out))?;
-    check(seal(&key, &NONCE, &AAD, &TEXT[1..], &mut out).is_none())?;
+    check(!open(&key, NONCE, &[], CIPHERTEXT, TAG, &mut out))?;
+    check(!open(&key, NONCE, AAD, &CIPHERTEXT[1..], TAG, &mut out))?;
+    check(seal(&key, NONCE, AAD, &TEXT[1..], &mut out).is_none())?;
     check(equal(&out, &[7; 60]))
 }

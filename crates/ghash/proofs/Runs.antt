@@ -13,11 +13,11 @@ use Rattle.ghash.proofs.Steps.{product-steps-done, product-steps-step}
 use Rattle.ghash.proofs.Linear.{bit}
 
 -- a step, over a bit that is known
-abbrev gone : ℕ → ℕ → ℕ → ℕ
-gone p z v = pick (eqb p 1) (bit-xor 128 z v) z
+abbrev plus-if : ℕ → ℕ → ℕ → ℕ
+plus-if p z v = pick (eqb p 1) (bit-xor 128 z v) z
 
-pub product-steps-bit : (n x v z p : ℕ) → bit x n ≡ p → product-steps (suc n) x v z ≡ product-steps n x (times-x v) (gone p z v)
-product-steps-bit n x v z p e = product-steps-step n x v z ∙ ap (λ k. product-steps n x (times-x v) (gone k z v)) (ap (λ k. x / k % 2) (pow2-is n) ∙ e)
+pub product-steps-bit : (n x v z p : ℕ) → bit x n ≡ p → product-steps (suc n) x v z ≡ product-steps n x (times-x v) (plus-if p z v)
+product-steps-bit n x v z p e = product-steps-step n x v z ∙ ap (λ k. product-steps n x (times-x v) (plus-if k z v)) (ap (λ k. x / k % 2) (pow2-is n) ∙ e)
 
 -- the high bits first, then the low ones
 pub product-steps-split : (m n x v z : ℕ) → product-steps (m + n) x v z ≡ product-steps n x (times-power m v) (product-steps m (x / 2 ^ n) v z)
@@ -30,7 +30,7 @@ product-steps-split (suc m) n x v z =
     let b : bit (x / 2 ^ n) m ≡ bit x (m + n) = ap (λ k. k % 2) (shr-shr x n m ∙ ap (λ k. x / 2 ^ k) (add-comm n m)) in
     ap (λ k. product-steps k x v z) e
     ∙ (product-steps-bit (m + n) x v z (bit x (m + n)) refl
-    ∙ (product-steps-split m n x (times-x v) (gone (bit x (m + n)) z v)
+    ∙ (product-steps-split m n x (times-x v) (plus-if (bit x (m + n)) z v)
     ∙ ap (λ k. product-steps n x (times-power m (times-x v)) k) (sym (product-steps-bit m (x / 2 ^ n) v z (bit x (m + n)) b))))
 
 -- only the low bits count
@@ -45,7 +45,7 @@ product-steps-low (suc n) j x v z =
     let e : j + suc n ≡ suc j + n = omega arith in
     ap (λ k. product-steps (suc n) (x % 2 ^ k) v z) e
     ∙ (product-steps-bit n (x % 2 ^ (suc j + n)) v z (bit x n) (bit-of-low x j n)
-    ∙ (product-steps-low n (suc j) x (times-x v) (gone (bit x n) z v) ∙ sym (product-steps-bit n x v z (bit x n) refl)))
+    ∙ (product-steps-low n (suc j) x (times-x v) (plus-if (bit x n) z v) ∙ sym (product-steps-bit n x v z (bit x n) refl)))
 
 -- times a power of x
 pub times-power-none : (v : ℕ) → times-power 0 v ≡ v

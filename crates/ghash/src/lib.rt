@@ -3,7 +3,7 @@
 mod element;
 mod field;
 mod hash;
-mod laws;
+pub mod laws;
 mod quad;
 mod table;
 
