@@ -37,6 +37,7 @@ pub fn derive(salt: &[u8], key: &[u8], info: &[u8], out: &mut [u8]) -> Result<()
     let mut extracted = hmac(salt, key);
     let mut block = expand(&extracted, info);
     out.copy_from_slice(&block[0..out.len()]);
+    // no promise: the compiler may have made copies, or drop these writes
     extracted.fill(0);
     block.fill(0);
     Ok(())
