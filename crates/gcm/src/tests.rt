@@ -42,7 +42,7 @@ fn refuses_and_leaves() -> Result<(), Fail> {
     let key = Key::new(KEY);
     let mut out = [7; 60];
     check(!open(&key, NONCE, &[], CIPHERTEXT, TAG, &mut out))?;
-    check(!open(&key, NONCE, AAD, &CIPHERTEXT[1..], TAG, &mut out))?;
-    check(seal(&key, NONCE, AAD, &TEXT[1..], &mut out).is_none())?;
+    check(!open(&key, NONCE, AAD, &[0; 59], TAG, &mut out))?;
+    check(seal(&key, NONCE, AAD, &[0; 59], &mut out).is_none())?;
     check(equal(&out, &[7; 60]))
 }
