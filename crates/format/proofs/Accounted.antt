@@ -9,17 +9,18 @@ use native.Mathlib.Omega.{arith}
 use lib.ListN.{length}
 use Rattle.std.specs.shelf.Lists.{All}
 use Rattle.octets.specs.Bytes.{all-bytes, bytes-eq, repeat}
+use Rattle.octets.specs.Cut.{and-then}
 use Rattle.octets.proofs.Numbers.{all-bytes-parts, bytes-eq-true}
 use Rattle.hkdf.specs.MessageKeys.{commitment, derive-label, sealing-key}
 use Rattle.aes256.specs.Aes.{round-keys}
 use Rattle.gcm.specs.Gcm.{ctr-blocks, tag-of}
 use Rattle.format.specs.Header.{header-bytes, header-of}
 use Rattle.format.specs.Message.{message, pieces}
-use Rattle.format.specs.Opening.{frames-in, header-tag-right, open-frames, opened, pieces-in}
+use Rattle.format.specs.Opening.{frames-in, header-tag-right, open-frames, open-message, opened, pieces-in}
 use Rattle.format.specs.Piece.{Piece, header-piece, seal-header}
-use Rattle.format.specs.Reading.{ReadHeader, and-then, read-header}
+use Rattle.format.specs.Reading.{ReadHeader, read-header}
 use Rattle.format.specs.Request.{Pair, Request}
-use Rattle.format.specs.Sealed.{Accounted, Among, Id-reused, Keys-collide, Sealed-here, Tag-right, Unsealed-piece, What-opens-was-sealed, What-opens-was-sealed-whatever-tag, all-good, forged, id-reused, keys-collide, sealed-here, was-sealed}
+use Rattle.format.specs.Sealed.{Accounted, Among, Forged, Id-reused, Keys-collide, Sealed-here, Tag-right, Unsealed-piece, What-opens-was-sealed, What-opens-was-sealed-whatever-tag, all-good, forged, id-reused, keys-collide, sealed-here, was-sealed}
 use Rattle.format.proofs.Below.{length-hkdf}
 use Rattle.format.proofs.Follow.{Follows, follow, frames-tags-right}
 use Rattle.format.proofs.Headers.{HeaderRead, header-injective, header-read}
@@ -55,6 +56,19 @@ own-piece r rs p g a n w = go (s .made)
     go (inl e) = absurd (not-zeros (own-key r) (r .id) 0 p n (ap (λ x. x .nonce) e))
     go (inr i) = frame i
 
+-- a request with another key, whose header stands in the message
+pub record SameHeader (rs : List Request) (k bs : List ℕ) : Type 0 where
+  pub who : Request
+  pub among : Among who rs
+  pub other : (who .key ≡ k) → ⊥
+  pub same-key : sealing-key (who .key) (who .id) ≡ sealing-key k (who .id)
+  pub same-commitment : commitment (who .key) (who .id) ≡ commitment k (who .id)
+  pub rest : List ℕ
+  pub begins : header-bytes (header-of who) ++ rest ≡ bs
+
+abbrev pub Outcome : List Request → List ℕ → List ℕ → List Pair → List ℕ → Type 0
+Outcome rs k bs c text = Sealed-here rs k bs c text ⊎ (Forged k bs rs ⊎ (Id-reused rs ⊎ SameHeader rs k bs))
+
 -- the header's piece was sealed as this request's header; so the message is this request's, or one of two things can be shown
 by-one : (rs : List Request) (k bs text : List ℕ) (c : List Pair) (x : ReadHeader) (r : Request)
     → all-good rs ≡ true → all-bytes bs ≡ true → HeaderRead bs x → Among r rs
@@ -62,7 +76,7 @@ by-one : (rs : List Request) (k bs text : List ℕ) (c : List Pair) (x : ReadHea
     → open-frames (suc (length (x .rest))) (sealing-key k (x .header .id)) (x .header) 1 [] (x .rest) ≡ opened c text
     → All (λ p. was-sealed p rs ≡ true) (frames-in (suc (length (x .rest))) (sealing-key k (x .header .id)) (x .header) 1 (x .rest))
     → header-piece (sealing-key k (x .header .id)) (x .header) (record { ciphertext = []; tag = x .tag }) ≡ header-piece (own-key r) (header-of r) (seal-header (own-key r) (header-of r))
-    → Accounted rs k bs c text
+    → Outcome rs k bs c text
 by-one rs k bs text c x r good bb seen am ec eo all e = decided (List-discrete ℕ-discrete (r .key) k)
   where
     g : Good r
@@ -97,11 +111,19 @@ by-one rs k bs text c x r good bb seen am ec eo all e = decided (List-discrete �
         ap₂ (λ xs ys. xs ++ ys) (ap header-bytes (sym h)) (ap₂ (λ xs ys. xs ++ ys) (sym (ap (λ p. p .sealed .tag) e)) (sym (f .frames-are)))
         ∙ seen .written
 
-    decided : Dec (r .key ≡ k) → Accounted rs k bs c text
+    decided : Dec (r .key ≡ k) → Outcome rs k bs c text
     decided (no n) =
-        keys-collide (r, (am, n, sym ek ∙ ap (λ i. sealing-key k i) (ap (λ i. i .id) h), sym (ap (λ i. i .commitment) h) ∙ (sym ec ∙ ap (λ i. commitment k i) (ap (λ i. i .id) h))))
+        inr (inr (inr (record {
+          who = r;
+          among = am;
+          other = n;
+          same-key = sym ek ∙ ap (λ i. sealing-key k i) (ap (λ i. i .id) h);
+          same-commitment = sym (ap (λ i. i .commitment) h) ∙ (sym ec ∙ ap (λ i. commitment k i) (ap (λ i. i .id) h));
+          rest = x .tag ++ x .rest;
+          begins = ap (λ i. header-bytes i ++ (x .tag ++ x .rest)) (sym h) ∙ seen .written;
+        })))
     decided (yes y) =
-        ⊎-elim (λ w. id-reused w) (λ a. let f = follows a in sealed-here (r, (am, y, sym (f .context-is), sym (f .text-is), written f)))
+        ⊎-elim (λ w. inr (inr (inl w))) (λ a. let f = follows a in inl (r, (am, y, sym (f .context-is), sym (f .text-is), written f)))
         (all-or (Numbered (own-key r) (r .id) 1) (λ p. was-sealed p rs ≡ true) (λ p. In p (own-frames r)) (Id-reused rs) (frames-in m (own-key r) (header-of r) 1 (x .rest))
         (λ p n w. own-piece r rs p good am n w) (numbered-in m (own-key r) (header-of r) 1 (x .rest) rest-bytes) sealed-so)
 
@@ -112,7 +134,7 @@ abbrev pieces-at : List ℕ → ReadHeader → List Piece
 pieces-at k x = header-in k x ∷ frames-in (suc (length (x .rest))) (sealing-key k (x .header .id)) (x .header) 1 (x .rest)
 
 all-sealed : (rs : List Request) (k bs text : List ℕ) (c : List Pair) (x : ReadHeader) → all-good rs ≡ true → all-bytes bs ≡ true → HeaderRead bs x → open-read k x ≡ opened c text
-    → All (λ p. was-sealed p rs ≡ true) (pieces-at k x) → Accounted rs k bs c text
+    → All (λ p. was-sealed p rs ≡ true) (pieces-at k x) → Outcome rs k bs c text
 all-sealed rs k bs text c x good bb seen e a = go (s .made)
   where
     s : Sealer (header-in k x) rs
@@ -121,7 +143,7 @@ all-sealed rs k bs text c x good bb seen e a = go (s .made)
     r : Request
     r = s .who
 
-    go : In (header-in k x) (pieces r) → Accounted rs k bs c text
+    go : In (header-in k x) (pieces r) → Outcome rs k bs c text
     go (inl q) =
         let p = picked-opened (bytes-eq (commitment k (x .header .id)) (x .header .commitment)) _ 4 0 c text e in
         let w = picked-opened (header-tag-right (sealing-key k (x .header .id)) x) _ 5 0 c text (p .1) in
@@ -141,14 +163,24 @@ pieces-tags-right k text c x e =
     let w = picked-opened (header-tag-right (sealing-key k (x .header .id)) x) _ 5 0 c text (p .1) in
     (header-piece-tag-right k x (w .0), frames-tags-right (suc (length (x .rest))) (sealing-key k (x .header .id)) (x .header) 1 [] (x .rest) text c (w .1))
 
-pub what-opens-was-sealed : What-opens-was-sealed
-unfolding What-opens-was-sealed and-then
-what-opens-was-sealed rs k bs text c good bb e =
+pub what-opens : (rs : List Request) (k bs text : List ℕ) (c : List Pair) → all-good rs ≡ true → all-bytes bs ≡ true → open-message k bs ≡ opened c text → Outcome rs k bs c text
+unfolding and-then
+what-opens rs k bs text c good bb e =
     let o : HeaderOpened (read-header bs) (open-read k) (opened c text) = with-header-some (read-header bs) (open-read k) c text e in
     let x : ReadHeader = o .found in
-    ⊎-elim (λ w. forged w)
+    ⊎-elim (λ w. inr (inl w))
     (λ a. all-sealed rs k bs text c x good bb (header-read bs x (o .more) bb (o .here)) (o .then) (subst (λ xs. All (λ p. was-sealed p rs ≡ true) (and-then xs (pieces-at k))) (o .here) a))
     (each-sealed (pieces-in k bs) rs (subst (λ xs. All Tag-right (and-then xs (pieces-at k))) (sym (o .here)) (pieces-tags-right k text c x (o .then))))
+
+accounted : (rs : List Request) (k bs : List ℕ) (c : List Pair) (text : List ℕ) → Outcome rs k bs c text → Accounted rs k bs c text
+accounted rs k bs c text (inl s) = sealed-here s
+accounted rs k bs c text (inr (inl f)) = forged f
+accounted rs k bs c text (inr (inr (inl w))) = id-reused w
+accounted rs k bs c text (inr (inr (inr s))) = keys-collide (s .who, (s .among, s .other, s .same-key, s .same-commitment))
+
+pub what-opens-was-sealed : What-opens-was-sealed
+unfolding What-opens-was-sealed
+what-opens-was-sealed rs k bs text c good bb e = accounted rs k bs c text (what-opens rs k bs text c good bb e)
 
 -- without a word on the tag
 without-tag : (rs : List Request) (k bs : List ℕ) (c : List Pair) (text : List ℕ) → Accounted rs k bs c text → Sealed-here rs k bs c text ⊎ (Unsealed-piece k bs rs ⊎ (Id-reused rs ⊎ Keys-collide k rs))

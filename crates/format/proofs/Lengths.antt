@@ -42,7 +42,7 @@ pub tag-long : (r : Request) → length (own-tag r) ≡ 16
 tag-long r = length-tag (own-key r) (repeat 12 0) (header-bytes (header-of r)) [] (key-long r)
 
 -- how long the frames are
-length-regular : (n : ℕ) (s : Sealed) → length (s .tag) ≡ 16 → length (frame-bytes n s) ≡ length (s .ciphertext) + 32
+pub length-regular : (n : ℕ) (s : Sealed) → length (s .tag) ≡ 16 → length (frame-bytes n s) ≡ length (s .ciphertext) + 32
 length-regular n s lt =
     let a = length-append (to-bytes 4 n) (to-bytes 12 n ++ (s .ciphertext ++ s .tag)) in
     let b = length-append (to-bytes 12 n) (s .ciphertext ++ s .tag) in

@@ -14,3 +14,7 @@ pub mod Lengths
 pub mod Sealing
 pub mod Nonces
 pub mod Ends
+pub mod Behind
+pub mod FrameList
+pub mod Changed
+pub mod Shown

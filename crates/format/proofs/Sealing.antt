@@ -39,7 +39,7 @@ unseal-own dk id last n t lk bt =
     ap (λ j. unseal dk (to-bytes 12 n) (frame-aad id last n j) (seal-frame dk id last n t)) (length-ciphertext dk (to-bytes 12 n) (frame-aad id last n (length t)) t lk)
     ∙ unseal-seal dk (to-bytes 12 n) (frame-aad id last n (length t)) t lk bt
 
-next : (size m k n : ℕ) (t : List ℕ) → 0 < size → length t < suc m → length t < suc k → length t + n * size ≤ 4294967296 * size → size < length t
+pub next : (size m k n : ℕ) (t : List ℕ) → 0 < size → length t < suc m → length t < suc k → length t + n * size ≤ 4294967296 * size → size < length t
     → (length (drop size t) < m) × (length (drop size t) < k) × (suc n < 4294967296) × (length (drop size t) + suc n * size ≤ 4294967296 * size)
 next size m k n t low hm hk ht g =
     let l = length-drop size t in

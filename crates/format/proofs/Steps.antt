@@ -10,9 +10,9 @@ use lib.Seq.{drop-at, take-at}
 use Rattle.std.proofs.shelf.Tests.{le-leb, leb-true}
 use Rattle.octets.specs.Bits.{pick}
 use Rattle.octets.specs.Bytes.{drop, take}
+use Rattle.octets.specs.Cut.{Cut, and-then, cut, guard}
 use Rattle.octets.proofs.Bits.{pick-true}
 use Rattle.octets.proofs.Lists.{drop-is, length-take, take-drop, take-is}
-use Rattle.format.specs.Reading.{Cut, and-then, cut, guard}
 
 -- none is not one
 pub none-is-one : {A : Type 0} (B : Type 0) (x : A) (xs : List A) → [] ≡ x ∷ xs → B
@@ -76,6 +76,10 @@ and-then-put n a b f l = ap (λ xs. and-then xs f) (cut-put n a b l)
 pub guard-true : {A : Type 0} (b : Bool) (xs : List A) → b ≡ true → guard b xs ≡ xs
 unfolding guard
 guard-true b xs e = ap (λ c. guard c xs) e
+
+pub guard-false : {A : Type 0} (b : Bool) (xs : List A) → b ≡ false → guard b xs ≡ []
+unfolding guard
+guard-false b xs e = ap (λ c. guard c xs) e
 
 pub and-then-one : {A B : Type 0} (xs : List A) (x : A) (f : A → List B) → xs ≡ x ∷ [] → and-then xs f ≡ f x
 unfolding and-then

@@ -7,3 +7,4 @@ pub mod Opening
 pub mod Promise
 pub mod Sealed
 pub mod Statements
+pub mod Corollaries

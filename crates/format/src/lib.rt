@@ -2,6 +2,7 @@
 // and each function's contract is one statement, so that its proof is owed.
 pub mod authenticity;
 pub mod boundaries;
+pub mod corollaries;
 pub mod reading;
 pub mod round_trip;
 pub mod shape;
