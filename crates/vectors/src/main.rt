@@ -1,6 +1,7 @@
 // Public test vectors and known messages, run against the library: one line a file, with how many cases came out as expected.
 mod ciphers;
 mod hashes;
+mod requests;
 mod words;
 
 use std::alloc::Global;
