@@ -11,7 +11,7 @@ use Rattle.std.specs.shelf.Lists.{All}
 use Rattle.octets.specs.Bytes.{all-bytes, bytes-eq, repeat}
 use Rattle.octets.specs.Cut.{and-then}
 use Rattle.octets.proofs.Numbers.{all-bytes-parts, bytes-eq-true}
-use Rattle.hkdf.specs.MessageKeys.{commitment, derive-label, sealing-key}
+use Rattle.hkdf.specs.MessageKeys.{commitment, sealing-key}
 use Rattle.aes256.specs.Aes.{round-keys}
 use Rattle.gcm.specs.Gcm.{ctr-blocks, tag-of}
 use Rattle.format.specs.Header.{header-bytes, header-of}
@@ -21,9 +21,9 @@ use Rattle.format.specs.Piece.{Piece, header-piece, seal-header}
 use Rattle.format.specs.Reading.{ReadHeader, read-header}
 use Rattle.format.specs.Request.{Pair, Request}
 use Rattle.format.specs.Sealed.{Accounted, Among, Forged, Id-reused, Keys-collide, Sealed-here, Tag-right, Unsealed-piece, What-opens-was-sealed, What-opens-was-sealed-whatever-tag, all-good, forged, id-reused, keys-collide, sealed-here, was-sealed}
-use Rattle.format.proofs.Below.{length-hkdf}
 use Rattle.format.proofs.Follow.{Follows, follow, frames-tags-right}
 use Rattle.format.proofs.Headers.{HeaderRead, header-injective, header-read}
+use Rattle.format.proofs.KeyLengths.{length-sealing-key}
 use Rattle.format.proofs.Opening.{HeaderOpened, open-read, picked-opened, with-header-some}
 use Rattle.format.proofs.Pieces.{In, Numbered, Sealer, aad-is, all-or, each-sealed, in-all, not-zeros, numbered-in, own-frames, own-key, own-numbered, sealer}
 use Rattle.format.proofs.Requests.{Good, good-among, request-discrete}
@@ -103,7 +103,7 @@ by-one rs k bs text c x r good bb seen am ec eo all e = decided (List-discrete �
     follows : All (λ p. In p (own-frames r)) (frames-in m (own-key r) (header-of r) 1 (x .rest)) → Follows (own-key r) (header-of r) (suc (length (r .text))) 1 [] (x .rest) (r .text) text c
     follows a =
         let l = g .text-short in
-        follow (own-key r) (header-of r) (length-hkdf (r .id) (r .key) derive-label 32 (omega arith)) (g .fits .id-long) (g .fits .low)
+        follow (own-key r) (header-of r) (length-sealing-key (r .key) (r .id)) (g .fits .id-long) (g .fits .low)
         m (suc (length (r .text))) 1 [] (x .rest) (r .text) text c (omega arith) (omega arith) rest-bytes (g .text-bytes) opens-so a
 
     written : Follows (own-key r) (header-of r) (suc (length (r .text))) 1 [] (x .rest) (r .text) text c → message r ≡ bs

@@ -10,13 +10,15 @@ use Rattle.std.proofs.shelf.Lists.{append-nil, nil-from-length}
 use Rattle.std.proofs.shelf.Tests.{and-from, and-parts, eqb-true, le-leb, leb-true, lt-ltb, ltb-true, ne-eqb}
 use Rattle.octets.specs.Bits.{pick}
 use Rattle.octets.specs.Bytes.{all-bytes, of-bytes, to-bytes}
+use Rattle.octets.specs.Cut.{Cut, and-then, cut, guard}
 use Rattle.octets.proofs.Bits.{pick-false}
+use Rattle.octets.proofs.Cuts.{cut-front, guard-true}
 use Rattle.octets.proofs.Numbers.{all-bytes-parts, length-to-bytes, of-bytes-below, to-of-bytes}
 use Rattle.format.specs.Header.{context-bytes}
-use Rattle.format.specs.Reading.{Cut, ReadDataKeys, ReadPairs, and-then, cut, cut-field, guard, is-empty, read-context, read-data-keys, read-pairs}
+use Rattle.format.specs.Reading.{ReadDataKeys, ReadPairs, cut-field, is-empty, read-context, read-data-keys, read-pairs}
 use Rattle.format.specs.Request.{EncryptedDataKey, Pair, data-keys-bytes, field, fits-field, pairs-bytes, rising, short-data-keys, short-pairs}
 use Rattle.format.proofs.Fields.{context-body, context-body-short, context-is, count-pairs, length-context-body, of-two}
-use Rattle.format.proofs.Steps.{and-then-cut, and-then-one, and-then-put, and-then-some, cut-is, cut-put, first-is-first, guard-some, guard-true}
+use Rattle.format.proofs.Steps.{and-then-cut, and-then-gave, and-then-one, and-then-put, cut-is, first-is-first, guard-gave}
 
 pub record FieldRead {B : Type 0} (bs : List ℕ) (f : Cut → List B) (ys : List B) : Type 0 where
   pub front : List ℕ
@@ -32,7 +34,7 @@ two-of a n l b e =
 
 pub on-field : {B : Type 0} (bs : List ℕ) (f : Cut → List B) (y : B) (ys : List B) → all-bytes bs ≡ true → and-then (cut-field bs) f ≡ y ∷ ys → FieldRead bs f (y ∷ ys)
 on-field bs f y ys bb e =
-    let a = and-then-some (cut-field bs) f y ys e in
+    let a = and-then-gave (cut-field bs) f y ys e in
     let k = and-then-cut 2 bs (λ x. cut (of-bytes (x .front)) (x .rest)) (a .one) (a .more) (a .here) in
     let d = cut-is (of-bytes (k .front)) (k .rest) (a .one) (a .more) (k .then) in
     let bk = all-bytes-parts (k .front) (k .rest) (rw (k .whole) bb) in
@@ -58,7 +60,7 @@ pairs-read (suc n) bs ps more bb e =
     let bk = all-bytes-parts (field (k .front)) (k .rest) (rw (k .whole) bb) .1 in
     let v = on-field (k .rest) _ ps more bk (k .then) in
     let bv = all-bytes-parts (field (v .front)) (v .rest) (rw (v .whole) bk) .1 in
-    let s = and-then-some (read-pairs n (v .rest)) _ ps more (v .then) in
+    let s = and-then-gave (read-pairs n (v .rest)) _ ps more (v .then) in
     let r : PairsRead n (v .rest) (s .one) = pairs-read n (v .rest) (s .one) (s .more) bv (s .here) in
     let p : Pair = record { name = k .front; value = v .front } in
     let l = r .count in
@@ -86,7 +88,7 @@ data-keys-read (suc n) bs hs more bb e =
     let bv = all-bytes-parts (field (v .front)) (v .rest) (rw (v .whole) bk) .1 in
     let w = on-field (v .rest) _ hs more bv (v .then) in
     let bw = all-bytes-parts (field (w .front)) (w .rest) (rw (w .whole) bv) .1 in
-    let s = and-then-some (read-data-keys n (w .rest)) _ hs more (w .then) in
+    let s = and-then-gave (read-data-keys n (w .rest)) _ hs more (w .then) in
     let r : DataKeysRead n (w .rest) (s .one) = data-keys-read n (w .rest) (s .one) (s .more) bw (s .here) in
     let p : EncryptedDataKey = record { provider-id = k .front; provider-info = v .front; ciphertext = w .front } in
     let bytes-then : List ℕ = data-keys-bytes (s .one .encrypted-data-keys) in
@@ -138,9 +140,9 @@ context-read bs ps more bb e =
     go front rest bf s w false h e =
         let n = and-then-cut 2 front _ ps more e in
         let bn = all-bytes-parts (n .front) (n .rest) (rw (n .whole) bf) in
-        let q = and-then-some (read-pairs (of-bytes (n .front)) (n .rest)) _ ps more (n .then) in
+        let q = and-then-gave (read-pairs (of-bytes (n .front)) (n .rest)) _ ps more (n .then) in
         let r = pairs-read (of-bytes (n .front)) (n .rest) (q .one) (q .more) (bn .1) (q .here) in
-        let i = guard-some (is-empty (q .one .rest) && (ltb 0 (length (q .one .pairs)) && rising (q .one .pairs))) _ ps more (q .then) in
+        let i = guard-gave (is-empty (q .one .rest) && (ltb 0 (length (q .one .pairs)) && rising (q .one .pairs))) _ ps more (q .then) in
         let i1 = and-parts (is-empty (q .one .rest)) (ltb 0 (length (q .one .pairs)) && rising (q .one .pairs)) (i .0) in
         let i2 = and-parts (ltb 0 (length (q .one .pairs))) (rising (q .one .pairs)) (i1 .1) in
         let z : q .one .rest ≡ [] = nil-from-length (q .one .rest) (eqb-true (length (q .one .rest)) 0 (i1 .0)) in
@@ -153,7 +155,7 @@ context-read bs ps more bb e =
 field-put : (a b : List ℕ) → length a ≤ 65535 → cut-field (field a ++ b) ≡ record { front = a; rest = b } ∷ []
 field-put a b h =
     ap cut-field (append-assoc (to-bytes 2 (length a)) a b)
-    ∙ (and-then-put 2 (to-bytes 2 (length a)) (a ++ b) (λ c. cut (of-bytes (c .front)) (c .rest)) (length-to-bytes 2 (length a)) ∙ cut-put (of-bytes (to-bytes 2 (length a))) a b (sym (of-two (length a) h)))
+    ∙ (and-then-put 2 (to-bytes 2 (length a)) (a ++ b) (λ c. cut (of-bytes (c .front)) (c .rest)) (length-to-bytes 2 (length a)) ∙ cut-front (of-bytes (to-bytes 2 (length a))) a b (sym (of-two (length a) h)))
 
 on-field-put : {B : Type 0} (a b : List ℕ) (f : Cut → List B) → fits-field a ≡ true → and-then (cut-field (field a ++ b)) f ≡ f (record { front = a; rest = b })
 on-field-put a b f h = and-then-one (cut-field (field a ++ b)) (record { front = a; rest = b }) f (field-put a b (leb-true (length a) 65535 h))

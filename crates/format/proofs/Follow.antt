@@ -12,19 +12,21 @@ use Rattle.std.proofs.shelf.Tests.{eqb-true, ltb-true}
 use Rattle.std.specs.shelf.Lists.{All}
 use Rattle.octets.specs.Bits.{pick}
 use Rattle.octets.specs.Bytes.{all-bytes, bytes-eq, drop, take, to-bytes}
+use Rattle.octets.specs.Cut.{and-then}
 use Rattle.octets.proofs.Bits.{pick-false, pick-true}
 use Rattle.octets.proofs.Lists.{length-drop, take-drop}
 use Rattle.octets.proofs.Numbers.{all-bytes-drop, all-bytes-parts, all-bytes-take, bytes-eq-true}
 use Rattle.aes256.specs.Aes.{round-keys}
+use Rattle.aes256.proofs.Lengths.{length-round-keys}
 use Rattle.gcm.specs.Gcm.{Sealed, ctr, seal, tag-of, unseal}
+use Rattle.gcm.proofs.Undo.{ctr-twice}
 use Rattle.format.specs.Header.{Header}
 use Rattle.format.specs.Message.{frame-pieces, frames}
 use Rattle.format.specs.Opening.{frames-in, open-frames, opened, unseal-frame}
 use Rattle.format.specs.Piece.{Piece, final-bytes, frame-aad, frame-bytes, frame-piece, seal-frame}
-use Rattle.format.specs.Reading.{ReadFrame, and-then, is-empty, read-frame}
+use Rattle.format.specs.Reading.{ReadFrame, is-empty, read-frame}
 use Rattle.format.specs.Request.{Pair}
 use Rattle.format.specs.Sealed.{Tag-right}
-use Rattle.format.proofs.Below.{ctr-twice, length-round-keys}
 use Rattle.format.proofs.Fields.{context-body}
 use Rattle.format.proofs.Frames.{FrameRead, frame-read, frame-written}
 use Rattle.format.proofs.Opening.{after, frames-last, frames-more, last-some, with-frame-some, with-text-some}

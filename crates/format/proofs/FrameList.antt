@@ -12,10 +12,12 @@ use Rattle.std.proofs.shelf.Tests.{eq-eqb, ltb-true, ne-eqb}
 use Rattle.octets.specs.Bits.{pick}
 use Rattle.octets.specs.Bytes.{bytes-eq, drop, of-bytes, take, to-bytes}
 use Rattle.octets.proofs.Bits.{pick-false, pick-true}
+use Rattle.octets.proofs.Cuts.{guard-false}
 use Rattle.octets.proofs.Lists.{length-take}
 use Rattle.octets.proofs.Numbers.{length-to-bytes}
 use Rattle.hkdf.specs.MessageKeys.{commitment}
 use Rattle.gcm.specs.Gcm.{Sealed}
+use Rattle.gcm.proofs.Undo.{length-ciphertext, length-tag}
 use Rattle.format.specs.Corollaries.{Message-in-frames, Out-of-place-never-opens, frame-list, frames-of, front-of}
 use Rattle.format.specs.Header.{Header, header-bytes, header-of}
 use Rattle.format.specs.Message.{frames}
@@ -23,16 +25,16 @@ use Rattle.format.specs.Opening.{header-tag-right, open-frames, open-message, 
 use Rattle.format.specs.Piece.{final-bytes, frame-aad, frame-bytes, seal-frame}
 use Rattle.format.specs.Reading.{ReadFrame, ReadHeader, read-frame, read-header}
 use Rattle.format.specs.Request.{Pair, Request, end-marker}
-use Rattle.format.proofs.Below.{length-ciphertext, length-tag}
 use Rattle.format.proofs.Fields.{of-four}
 use Rattle.format.proofs.Frames.{regular-put}
 use Rattle.format.proofs.Headers.{header-put}
-use Rattle.format.proofs.Lengths.{all-frames, commitment-long, key-long, own-tag, tag-long}
+use Rattle.format.proofs.KeyLengths.{length-commitment, length-sealing-key}
+use Rattle.format.proofs.Lengths.{all-frames, own-tag, tag-long}
 use Rattle.format.proofs.Opening.{after, open-read, picked-opened, refused-is-opened, with-frame-some, with-text-some}
 use Rattle.format.proofs.Pieces.{own-key}
 use Rattle.format.proofs.Requests.{Good, good-is}
 use Rattle.format.proofs.Sealing.{next}
-use Rattle.format.proofs.Steps.{and-then-put, first-is-first, guard-false}
+use Rattle.format.proofs.Steps.{and-then-put, first-is-first}
 
 -- a regular frame and a final one with a number
 pub record Regular (size n : ℕ) (f : List ℕ) : Type 0 where
@@ -90,7 +92,7 @@ pub own-chain : (r : Request) → Good r → Chain (r .frame-length) 1 (frames-o
 own-chain r g =
     let f = g .in-frames in
     let l = g .fits .low in
-    chain (suc (length (r .text))) (own-key r) (r .id) (r .frame-length) 1 (r .text) (key-long r) l (omega arith) (omega arith) (omega arith)
+    chain (suc (length (r .text))) (own-key r) (r .id) (r .frame-length) 1 (r .text) (length-sealing-key (r .key) (r .id)) l (omega arith) (omega arith) (omega arith)
 
 -- from any frame on it's the same, and what stands before is regular
 pub chain-at : (size n : ℕ) (before : List (List ℕ)) (f : List ℕ) (fs : List (List ℕ)) → Chain size n (before ++ (f ∷ fs)) → Run size n before × Chain size (n + length before) (f ∷ fs)
@@ -206,7 +208,7 @@ unfolding with-header
 own-after r bs text c g e =
     let x : ReadHeader = record { header = header-of r; tag = own-tag r; rest = bs } in
     let is : read-header (front-of r ++ bs) ≡ x ∷ [] =
-    ap read-header (append-assoc (header-bytes (header-of r)) (own-tag r) bs) ∙ header-put (header-of r) (own-tag r) bs (g .fits) (g .rises) (g .some-keys) (commitment-long (r .key) (r .id)) (tag-long r) in
+    ap read-header (append-assoc (header-bytes (header-of r)) (own-tag r) bs) ∙ header-put (header-of r) (own-tag r) bs (g .fits) (g .rises) (g .some-keys) (length-commitment (r .key) (r .id)) (tag-long r) in
     let o : open-read (r .key) x ≡ opened c text = sym (ap (λ xs. with-header xs (open-read (r .key))) is) ∙ e in
     let p = picked-opened (bytes-eq (commitment (r .key) (r .id)) (commitment (r .key) (r .id))) _ 4 0 c text o in
     let q = picked-opened (header-tag-right (own-key r) x) _ 5 0 c text (p .1) in

@@ -9,15 +9,17 @@ use lib.ListN.{length}
 use Rattle.std.proofs.shelf.Tests.{and-from, and-parts, eq-eqb, eqb-true, le-leb, lt-ltb, ne-eqb}
 use Rattle.octets.specs.Bits.{pick}
 use Rattle.octets.specs.Bytes.{all-bytes, bytes-eq, of-bytes, to-bytes}
+use Rattle.octets.specs.Cut.{guard}
 use Rattle.octets.proofs.Bits.{pick-false, pick-true}
+use Rattle.octets.proofs.Cuts.{guard-true}
 use Rattle.octets.proofs.Numbers.{all-bytes-parts, bytes-eq-refl, bytes-eq-true, length-to-bytes, of-bytes-below, to-of-bytes}
 use Rattle.gcm.specs.Gcm.{Sealed}
 use Rattle.format.specs.Piece.{final-bytes, frame-bytes}
-use Rattle.format.specs.Reading.{ReadFrame, guard, read-final, read-frame, read-regular}
+use Rattle.format.specs.Reading.{ReadFrame, read-final, read-frame, read-regular}
 use Rattle.format.specs.Request.{end-marker}
 use Rattle.format.specs.Statements.{Frame-is-written}
 use Rattle.format.proofs.Fields.{of-four}
-use Rattle.format.proofs.Steps.{and-then-cut, and-then-put, first-is-first, guard-some, guard-true}
+use Rattle.format.proofs.Steps.{and-then-cut, and-then-put, first-is-first, guard-gave}
 
 -- a frame that was read
 abbrev pub frame-written : ℕ → ReadFrame → List ℕ
@@ -41,7 +43,7 @@ regular : (size n : ℕ) (m bs : List ℕ) (f : ReadFrame) (fs : List ReadFrame)
 unfolding pick
 regular size n m bs f fs em hn e =
     let v = and-then-cut 12 bs _ f fs e in
-    let v2 = guard-some (bytes-eq (v .front) (to-bytes 12 n)) _ f fs (v .then) in
+    let v2 = guard-gave (bytes-eq (v .front) (to-bytes 12 n)) _ f fs (v .then) in
     let k = and-then-cut size (v .rest) _ f fs (v2 .1) in
     let t = and-then-cut 16 (k .rest) _ f fs (k .then) in
     let s : Sealed = record { ciphertext = k .front; tag = t .front } in
@@ -55,16 +57,16 @@ final : (size n : ℕ) (m bs : List ℕ) (f : ReadFrame) (fs : List ReadFrame) �
 unfolding pick
 final size n m bs f fs em bb e =
     let a = and-then-cut 4 bs _ f fs e in
-    let a2 = guard-some (eqb (of-bytes (a .front)) n) _ f fs (a .then) in
+    let a2 = guard-gave (eqb (of-bytes (a .front)) n) _ f fs (a .then) in
     let ba = all-bytes-parts (a .front) (a .rest) (rw (a .whole) bb) in
     let a4 = four (a .front) n (a .long) (ba .0) (a2 .0) in
     let v = and-then-cut 12 (a .rest) _ f fs (a2 .1) in
-    let v2 = guard-some (bytes-eq (v .front) (to-bytes 12 n)) _ f fs (v .then) in
+    let v2 = guard-gave (bytes-eq (v .front) (to-bytes 12 n)) _ f fs (v .then) in
     let ev : v .front ≡ to-bytes 12 n = bytes-eq-true (v .front) (to-bytes 12 n) (v2 .0) in
     let bv = all-bytes-parts (v .front) (v .rest) (rw (v .whole) (ba .1)) in
     let l = and-then-cut 4 (v .rest) _ f fs (v2 .1) in
     let bl = all-bytes-parts (l .front) (l .rest) (rw (l .whole) (bv .1)) in
-    let l2 = guard-some (leb (of-bytes (l .front)) size) _ f fs (l .then) in
+    let l2 = guard-gave (leb (of-bytes (l .front)) size) _ f fs (l .then) in
     let k = and-then-cut (of-bytes (l .front)) (l .rest) _ f fs (l2 .1) in
     let t = and-then-cut 16 (k .rest) _ f fs (k .then) in
     let s : Sealed = record { ciphertext = k .front; tag = t .front } in
@@ -88,7 +90,7 @@ frame-read size n bs f fs bb e =
         → pick b (read-final size n r) (guard (eqb (of-bytes a) n && ltb n end-marker) (read-regular size n r)) ≡ f ∷ fs → FrameRead n (a ++ r) f
     go a r l ba br true h e = final size n a r f fs (four a end-marker l ba h .0) br e
     go a r l ba br false h e =
-        let p = guard-some (eqb (of-bytes a) n && ltb n end-marker) _ f fs e in
+        let p = guard-gave (eqb (of-bytes a) n && ltb n end-marker) _ f fs e in
         let q = and-parts (eqb (of-bytes a) n) (ltb n end-marker) (p .0) in
         let d = four a n l ba (q .0) in
         regular size n a r f fs (d .0) (d .1) (p .1)

@@ -8,9 +8,11 @@ use lib.Dec.{eqb, ltb}
 use lib.ListN.{length}
 use Rattle.octets.specs.Bits.{pick}
 use Rattle.octets.specs.Bytes.{of-bytes}
-use Rattle.format.specs.Reading.{Cut, ReadDataKeys, ReadFrame, ReadHeader, ReadPairs, and-then, cut, cut-field, guard, is-empty, read-context, read-data-keys, read-final, read-frame, read-header, read-pairs, read-regular}
+use Rattle.octets.specs.Cut.{Cut, and-then, cut, guard}
+use Rattle.octets.proofs.Cuts.{cut-front}
+use Rattle.format.specs.Reading.{ReadDataKeys, ReadFrame, ReadHeader, ReadPairs, cut-field, is-empty, read-context, read-data-keys, read-final, read-frame, read-header, read-pairs, read-regular}
 use Rattle.format.specs.Request.{end-marker, rising}
-use Rattle.format.proofs.Steps.{cut-is, cut-put, first-is-first}
+use Rattle.format.proofs.Steps.{cut-is, first-is-first}
 
 -- what is read first, with q done to it, is what is read there
 abbrev Grows : {A : Type 0} → (A → A) → List A → List A → Type 0
@@ -58,7 +60,7 @@ module _ (cs : List ℕ) where
   cut-grows : (n : ℕ) (bs : List ℕ) → Grows cut-on (cut n bs) (cut n (bs ++ cs))
   cut-grows n bs c more e =
       let p = cut-is n bs c more e in
-      ap (λ xs. cut n xs) (ap (λ xs. xs ++ cs) (sym (p .1)) ∙ append-assoc (c .front) (c .rest) cs) ∙ cut-put n (c .front) (c .rest ++ cs) (p .0)
+      ap (λ xs. cut n xs) (ap (λ xs. xs ++ cs) (sym (p .1)) ∙ append-assoc (c .front) (c .rest) cs) ∙ cut-front n (c .front) (c .rest ++ cs) (p .0)
 
   field-grows : (bs : List ℕ) → Grows cut-on (cut-field bs) (cut-field (bs ++ cs))
   field-grows bs = and-then-grows cut-on cut-on (cut 2 bs) (cut 2 (bs ++ cs)) _ _ (cut-grows 2 bs) (λ c. cut-grows (of-bytes (c .front)) (c .rest))

@@ -8,15 +8,17 @@ use lib.Dec.{ltb}
 use lib.ListN.{length}
 use Rattle.std.proofs.shelf.Tests.{lt-ltb, ltb-true}
 use Rattle.octets.specs.Bytes.{all-bytes, bytes-eq, of-bytes, to-bytes}
+use Rattle.octets.specs.Cut.{and-then, cut, guard}
+use Rattle.octets.proofs.Cuts.{guard-true}
 use Rattle.octets.proofs.Lists.{halves}
 use Rattle.octets.proofs.Numbers.{all-bytes-parts, bytes-eq-refl, bytes-eq-true, length-to-bytes, of-bytes-below, to-bytes-injective, to-of-bytes}
 use Rattle.format.specs.Header.{Header, context-bytes, header-bytes}
-use Rattle.format.specs.Reading.{ReadHeader, and-then, cut, guard, read-context, read-data-keys, read-header}
+use Rattle.format.specs.Reading.{ReadHeader, read-context, read-data-keys, read-header}
 use Rattle.format.specs.Request.{EncryptedDataKey, Pair, data-keys-bytes, pairs-bytes, rising, short-data-keys, short-pairs}
 use Rattle.format.specs.Statements.{Read-is-written, header-and-tag}
 use Rattle.format.proofs.Fields.{context-parts, data-keys-parts, of-four, of-two, two-parts}
 use Rattle.format.proofs.FieldsRead.{ContextRead, context-put, context-read, data-keys-put, data-keys-read, two-of}
-use Rattle.format.proofs.Steps.{and-then-cut, and-then-one, and-then-put, and-then-some, first-is-first, guard-some, guard-true}
+use Rattle.format.proofs.Steps.{and-then-cut, and-then-gave, and-then-one, and-then-put, first-is-first, guard-gave}
 
 -- parts that fit their places
 pub record Fits (h : Header) : Type 0 where
@@ -89,10 +91,10 @@ frame-length-read : (id : List ℕ) (ps : List Pair) (hs : List EncryptedDataKey
 frame-length-read id ps hs bs x xs bb e =
     let t = and-then-cut 1 bs _ x xs e in
     let bt = all-bytes-parts (t .front) (t .rest) (rw (t .whole) bb) .1 in
-    let t2 = guard-some (bytes-eq (t .front) (2 ∷ [])) _ x xs (t .then) in
+    let t2 = guard-gave (bytes-eq (t .front) (2 ∷ [])) _ x xs (t .then) in
     let f = and-then-cut 4 (t .rest) _ x xs (t2 .1) in
     let bf = all-bytes-parts (f .front) (f .rest) (rw (f .whole) bt) in
-    let f2 = guard-some (ltb 0 (of-bytes (f .front))) _ x xs (f .then) in
+    let f2 = guard-gave (ltb 0 (of-bytes (f .front))) _ x xs (f .then) in
     let k = and-then-cut 32 (f .rest) _ x xs (f2 .1) in
     let g = and-then-cut 16 (k .rest) _ x xs (k .then) in
     let f4 = four-of (f .front) (f .long) (bf .0) in
@@ -125,8 +127,8 @@ after-context-read : (id : List ℕ) (ps : List Pair) (bs : List ℕ) (x : ReadH
 after-context-read id ps bs x xs bb e =
     let n = and-then-cut 2 bs _ x xs e in
     let bn = all-bytes-parts (n .front) (n .rest) (rw (n .whole) bb) in
-    let n2 = guard-some (ltb 0 (of-bytes (n .front))) _ x xs (n .then) in
-    let h = and-then-some (read-data-keys (of-bytes (n .front)) (n .rest)) _ x xs (n2 .1) in
+    let n2 = guard-gave (ltb 0 (of-bytes (n .front))) _ x xs (n .then) in
+    let h = and-then-gave (read-data-keys (of-bytes (n .front)) (n .rest)) _ x xs (n2 .1) in
     let hr = data-keys-read (of-bytes (n .front)) (n .rest) (h .one) (h .more) (bn .1) (h .here) in
     let bh = all-bytes-parts (data-keys-bytes (h .one .encrypted-data-keys)) (h .one .rest) (rw (hr .written) (bn .1)) .1 in
     let nt = two-of (n .front) (length (h .one .encrypted-data-keys)) (n .long) (bn .0) (sym (hr .count)) in
@@ -156,10 +158,10 @@ unfolding read-header
 header-read bs x xs bb e =
     let v = and-then-cut 3 bs _ x xs e in
     let bv = all-bytes-parts (v .front) (v .rest) (rw (v .whole) bb) .1 in
-    let v2 = guard-some (bytes-eq (v .front) (2 ∷ (4 ∷ (120 ∷ [])))) _ x xs (v .then) in
+    let v2 = guard-gave (bytes-eq (v .front) (2 ∷ (4 ∷ (120 ∷ [])))) _ x xs (v .then) in
     let i = and-then-cut 32 (v .rest) _ x xs (v2 .1) in
     let bi = all-bytes-parts (i .front) (i .rest) (rw (i .whole) bv) .1 in
-    let c = and-then-some (read-context (i .rest)) (λ y. read-after-context (i .front) (y .pairs) (y .rest)) x xs (i .then) in
+    let c = and-then-gave (read-context (i .rest)) (λ y. read-after-context (i .front) (y .pairs) (y .rest)) x xs (i .then) in
     let cr = context-read (i .rest) (c .one) (c .more) bi (c .here) in
     let bc = all-bytes-parts (context-bytes (c .one .pairs)) (c .one .rest) (rw (cr .written) bi) .1 in
     go (v .front) (v .rest) (i .front) (i .rest) (c .one .pairs) (c .one .rest) (bytes-eq-true (v .front) (2 ∷ (4 ∷ (120 ∷ []))) (v2 .0)) (v .whole) (i .long) (i .whole) cr

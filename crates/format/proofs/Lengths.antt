@@ -8,19 +8,18 @@ use native.Mathlib.Nat.{div-eq-of-lt, div-eq-sub-div}
 use native.Mathlib.Omega.{arith}
 use lib.Dec.{ltb}
 use lib.ListN.{length, length-append}
-use lib.Pow.{low}
 use Rattle.std.proofs.shelf.Tests.{cases-bool, ltb-false, ltb-true}
 use Rattle.octets.specs.Bytes.{drop, repeat, take, to-bytes}
 use Rattle.octets.proofs.Lists.{length-drop, length-take}
 use Rattle.octets.proofs.Numbers.{length-to-bytes}
-use Rattle.hkdf.specs.MessageKeys.{commit-label, commitment, derive-label}
 use Rattle.gcm.specs.Gcm.{Sealed}
+use Rattle.gcm.proofs.Undo.{length-ciphertext, length-tag}
 use Rattle.format.specs.Header.{Header, context-bytes, header-bytes, header-of}
 use Rattle.format.specs.Message.{frames}
 use Rattle.format.specs.Piece.{final-bytes, frame-aad, frame-bytes, seal-frame, seal-header}
 use Rattle.format.specs.Request.{Request, data-keys-bytes, end-marker}
 use Rattle.format.specs.Statements.{Length-is-known}
-use Rattle.format.proofs.Below.{length-ciphertext, length-hkdf, length-tag}
+use Rattle.format.proofs.KeyLengths.{length-commitment, length-sealing-key}
 use Rattle.format.proofs.Opening.{frames-last, frames-more}
 use Rattle.format.proofs.Pieces.{own-key}
 use Rattle.format.proofs.Requests.{Good, good-is}
@@ -32,14 +31,8 @@ own-tag r = seal-header (own-key r) (header-of r) .tag
 abbrev pub all-frames : Request → List ℕ
 all-frames r = frames (suc (length (r .text))) (own-key r) (r .id) (r .frame-length) 1 (r .text)
 
-pub key-long : (r : Request) → length (own-key r) ≡ 32
-key-long r = length-hkdf (r .id) (r .key) derive-label 32 (omega arith)
-
-pub commitment-long : (k id : List ℕ) → length (commitment k id) ≡ 32
-commitment-long k id = length-hkdf id k commit-label 32 (omega arith)
-
 pub tag-long : (r : Request) → length (own-tag r) ≡ 16
-tag-long r = length-tag (own-key r) (repeat 12 0) (header-bytes (header-of r)) [] (key-long r)
+tag-long r = length-tag (own-key r) (repeat 12 0) (header-bytes (header-of r)) [] (length-sealing-key (r .key) (r .id))
 
 -- how long the frames are
 pub length-regular : (n : ℕ) (s : Sealed) → length (s .tag) ≡ 16 → length (frame-bytes n s) ≡ length (s .ciphertext) + 32
@@ -137,9 +130,9 @@ unfolding Length-is-known
 length-is-known r re tu =
     let g : Good r = good-is r re tu in
     let h : Header = header-of r in
-    let l = length-frames (suc (length (r .text))) (own-key r) (r .id) (r .frame-length) 1 (r .text) (key-long r) (g .fits .low) (omega arith) in
+    let l = length-frames (suc (length (r .text))) (own-key r) (r .id) (r .frame-length) 1 (r .text) (length-sealing-key (r .key) (r .id)) (g .fits .low) (omega arith) in
     let t = tag-long r in
     let a = length-append (header-bytes h) (own-tag r ++ all-frames r) in
     let b = length-append (own-tag r) (all-frames r) in
-    let d = length-header h (g .fits .id-long) (commitment-long (r .key) (r .id)) in
+    let d = length-header h (g .fits .id-long) (length-commitment (r .key) (r .id)) in
     omega arith

@@ -4,7 +4,7 @@ pub mod FieldsRead
 pub mod Headers
 pub mod Frames
 pub mod Further
-pub mod Below
+pub mod KeyLengths
 pub mod Requests
 pub mod Pieces
 pub mod Opening

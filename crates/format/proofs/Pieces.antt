@@ -7,11 +7,11 @@ use Prim.Native.Nat.{suc, zero, ℕ, _+_, _<_, _≤_}
 use native.Mathlib.Omega.{arith}
 use lib.Dec.{ltb}
 use lib.ListN.{length, length-append}
-use lib.Pow.{low}
 use Rattle.std.proofs.shelf.Tests.{and-from, and-parts, cases-bool, or-cases, or-left, or-right}
 use Rattle.std.specs.shelf.Lists.{All}
 use Rattle.octets.specs.Bits.{pick}
 use Rattle.octets.specs.Bytes.{all-bytes, bytes-eq, drop, number, of-bytes, repeat, take, to-bytes}
+use Rattle.octets.specs.Cut.{and-then}
 use Rattle.octets.proofs.Lists.{halves}
 use Rattle.octets.proofs.Numbers.{all-bytes-parts, bytes-eq-refl, bytes-eq-true, length-to-bytes, of-to-bytes, to-bytes-injective}
 use Rattle.hkdf.specs.MessageKeys.{sealing-key}
@@ -20,7 +20,7 @@ use Rattle.format.specs.Header.{Header}
 use Rattle.format.specs.Message.{frame-pieces, pieces}
 use Rattle.format.specs.Opening.{frames-in}
 use Rattle.format.specs.Piece.{Piece, final-label, frame-aad, frame-piece, regular-label, seal-frame}
-use Rattle.format.specs.Reading.{ReadFrame, and-then, read-frame}
+use Rattle.format.specs.Reading.{ReadFrame, read-frame}
 use Rattle.format.specs.Request.{Request}
 use Rattle.format.specs.Sealed.{Among, Tag-right, has-piece, same-piece, was-sealed}
 use Rattle.format.proofs.Frames.{FrameRead, frame-read, frame-written}

@@ -8,7 +8,7 @@ use native.Mathlib.Nat.{lt-of-mul-lt-mul-right, suc-mul}
 use native.Mathlib.Omega.{arith}
 use lib.Dec.{ltb}
 use lib.ListN.{length}
-use lib.Pow.{high, low}
+use lib.Pow.{high}
 use Rattle.std.proofs.shelf.Lists.{append-nil}
 use Rattle.std.proofs.shelf.Tests.{cases-bool, ltb-false, ltb-true}
 use Rattle.octets.specs.Bits.{pick}
@@ -18,6 +18,7 @@ use Rattle.octets.proofs.Lists.{length-drop, length-take, take-drop}
 use Rattle.octets.proofs.Numbers.{all-bytes-drop, all-bytes-take, bytes-eq-refl}
 use Rattle.hkdf.specs.MessageKeys.{commitment}
 use Rattle.gcm.specs.Gcm.{Sealed, unseal}
+use Rattle.gcm.proofs.Undo.{length-ciphertext, length-tag, unseal-seal}
 use Rattle.format.specs.Header.{Header, header-of}
 use Rattle.format.specs.Message.{frames, message}
 use Rattle.format.specs.Opening.{header-tag-right, open-frames, opened, with-header}
@@ -25,10 +26,10 @@ use Rattle.format.specs.Piece.{final-bytes, frame-aad, frame-bytes, seal-frame
 use Rattle.format.specs.Reading.{ReadHeader, read-header}
 use Rattle.format.specs.Request.{Request}
 use Rattle.format.specs.Statements.{Header-is-seen, Other-key, Sealed-opens, header-seen}
-use Rattle.format.proofs.Below.{length-ciphertext, length-tag, unseal-seal}
 use Rattle.format.proofs.Frames.{final-put, regular-put}
 use Rattle.format.proofs.Headers.{header-put}
-use Rattle.format.proofs.Lengths.{all-frames, commitment-long, key-long, length-frames, own-tag, tag-long}
+use Rattle.format.proofs.KeyLengths.{length-commitment, length-sealing-key}
+use Rattle.format.proofs.Lengths.{all-frames, length-frames, own-tag, tag-long}
 use Rattle.format.proofs.Opening.{frames-last, frames-more, open-read, open-step}
 use Rattle.format.proofs.Pieces.{own-key}
 use Rattle.format.proofs.Requests.{Good, good-is}
@@ -99,7 +100,7 @@ abbrev own-header : Request → ReadHeader
 own-header r = record { header = header-of r; tag = own-tag r; rest = all-frames r }
 
 pub reads-own : (r : Request) → Good r → read-header (message r) ≡ own-header r ∷ []
-reads-own r g = header-put (header-of r) (own-tag r) (all-frames r) (g .fits) (g .rises) (g .some-keys) (commitment-long (r .key) (r .id)) (tag-long r)
+reads-own r g = header-put (header-of r) (own-tag r) (all-frames r) (g .fits) (g .rises) (g .some-keys) (length-commitment (r .key) (r .id)) (tag-long r)
 
 pub header-is-seen : Header-is-seen
 unfolding Header-is-seen header-seen
@@ -115,10 +116,10 @@ unfolding Sealed-opens with-header
 sealed-opens r re tu =
     let g : Good r = good-is r re tu in
     let dk : List ℕ = own-key r in
-    let l = length-frames (suc (length (r .text))) dk (r .id) (r .frame-length) 1 (r .text) (key-long r) (g .fits .low) (omega arith) in
+    let l = length-frames (suc (length (r .text))) dk (r .id) (r .frame-length) 1 (r .text) (length-sealing-key (r .key) (r .id)) (g .fits .low) (omega arith) in
     let f = g .in-frames in
     ap (λ xs. with-header xs (open-read (r .key))) (reads-own r g)
     ∙ (pick-true (bytes-eq (commitment (r .key) (r .id)) (commitment (r .key) (r .id))) _ _ (bytes-eq-refl (commitment (r .key) (r .id)))
     ∙ (pick-true (header-tag-right dk (own-header r)) _ _ (bytes-eq-refl (own-tag r))
-    ∙ frames-open dk (header-of r) (key-long r) (g .fits .low) (g .fits .high) (suc (length (all-frames r))) (suc (length (r .text))) 1 [] (r .text)
+    ∙ frames-open dk (header-of r) (length-sealing-key (r .key) (r .id)) (g .fits .low) (g .fits .high) (suc (length (all-frames r))) (suc (length (r .text))) 1 [] (r .text)
     (omega arith) (omega arith) (omega arith) (omega arith) (g .text-bytes)))

@@ -1,18 +1,17 @@
 -- Readers step by step: what a step that went well says, and that it goes well where it can.
-use mathlib.Core.Path.{ap, ap₂, refl, subst, _∙_, _≡_}
+use mathlib.Core.Path.{ap, refl, subst, sym, _≡_}
 use mathlib.Core.Bool.{Bool, false, true}
 use mathlib.Core.List.{List, [], _++_, _∷_}
 use Prim.Native.Nat.{ℕ, _+_}
 use native.Mathlib.Omega.{arith}
 use lib.Dec.{leb}
-use lib.ListN.{length, length-append}
-use lib.Seq.{drop-at, take-at}
-use Rattle.std.proofs.shelf.Tests.{le-leb, leb-true}
+use lib.ListN.{length}
+use Rattle.std.proofs.shelf.Tests.{leb-true}
 use Rattle.octets.specs.Bits.{pick}
 use Rattle.octets.specs.Bytes.{drop, take}
 use Rattle.octets.specs.Cut.{Cut, and-then, cut, guard}
-use Rattle.octets.proofs.Bits.{pick-true}
-use Rattle.octets.proofs.Lists.{drop-is, length-take, take-drop, take-is}
+use Rattle.octets.proofs.Cuts.{and-then-some, cut-front}
+use Rattle.octets.proofs.Lists.{length-take, take-drop}
 
 -- none is not one
 pub none-is-one : {A : Type 0} (B : Type 0) (x : A) (xs : List A) → [] ≡ x ∷ xs → B
@@ -25,15 +24,15 @@ pub record Step {A B : Type 0} (xs : List A) (f : A → List B) (ys : List B) : 
   pub here : xs ≡ one ∷ more
   pub then : f one ≡ ys
 
-pub and-then-some : {A B : Type 0} (xs : List A) (f : A → List B) (y : B) (ys : List B) → and-then xs f ≡ y ∷ ys → Step xs f (y ∷ ys)
+pub and-then-gave : {A B : Type 0} (xs : List A) (f : A → List B) (y : B) (ys : List B) → and-then xs f ≡ y ∷ ys → Step xs f (y ∷ ys)
 unfolding and-then
-and-then-some [] f y ys e = none-is-one _ y ys e
-and-then-some (x ∷ xs) f y ys e = record { one = x; more = xs; here = refl; then = e }
+and-then-gave [] f y ys e = none-is-one _ y ys e
+and-then-gave (x ∷ xs) f y ys e = record { one = x; more = xs; here = refl; then = e }
 
-pub guard-some : {A : Type 0} (b : Bool) (xs : List A) (y : A) (ys : List A) → guard b xs ≡ y ∷ ys → (b ≡ true) × (xs ≡ y ∷ ys)
+pub guard-gave : {A : Type 0} (b : Bool) (xs : List A) (y : A) (ys : List A) → guard b xs ≡ y ∷ ys → (b ≡ true) × (xs ≡ y ∷ ys)
 unfolding guard
-guard-some true xs y ys e = (refl, e)
-guard-some false xs y ys e = none-is-one _ y ys e
+guard-gave true xs y ys e = (refl, e)
+guard-gave false xs y ys e = none-is-one _ y ys e
 
 pub first-is-first : {A : Type 0} (x y : A) (xs ys : List A) → x ∷ xs ≡ y ∷ ys → x ≡ y
 first-is-first x y xs ys e = cc
@@ -62,25 +61,9 @@ cut-is n bs c cs e = go (leb n (length bs)) refl e
     go true h e = subst (λ d. (length (d .front) ≡ n) × (d .front ++ d .rest ≡ bs)) (first-is-first (record { front = take n bs; rest = drop n bs }) c [] cs e) (length-take n bs (leb-true n (length bs) h), take-drop n bs)
     go false h e = none-is-one _ c cs e
 
--- what stands before other bytes is cut off again
-pub cut-put : (n : ℕ) (a b : List ℕ) → length a ≡ n → cut n (a ++ b) ≡ record { front = a; rest = b } ∷ []
-cut-put n a b l =
-    let m = length-append a b in
-    pick-true (leb n (length (a ++ b))) _ _ (le-leb n (length (a ++ b)) (omega arith))
-    ∙ ap₂ (λ (x y : List ℕ). record { front = x; rest = y } ∷ []) (take-is n (a ++ b) ∙ take-at a b n l) (drop-is n (a ++ b) ∙ drop-at a b n l)
-
 pub and-then-put : {B : Type 0} (n : ℕ) (a b : List ℕ) (f : Cut → List B) → length a ≡ n → and-then (cut n (a ++ b)) f ≡ f (record { front = a; rest = b })
 unfolding and-then
-and-then-put n a b f l = ap (λ xs. and-then xs f) (cut-put n a b l)
-
-pub guard-true : {A : Type 0} (b : Bool) (xs : List A) → b ≡ true → guard b xs ≡ xs
-unfolding guard
-guard-true b xs e = ap (λ c. guard c xs) e
-
-pub guard-false : {A : Type 0} (b : Bool) (xs : List A) → b ≡ false → guard b xs ≡ []
-unfolding guard
-guard-false b xs e = ap (λ c. guard c xs) e
+and-then-put n a b f l = ap (λ xs. and-then xs f) (cut-front n a b l)
 
 pub and-then-one : {A B : Type 0} (xs : List A) (x : A) (f : A → List B) → xs ≡ x ∷ [] → and-then xs f ≡ f x
-unfolding and-then
-and-then-one xs x f e = ap (λ ys. and-then ys f) e
+and-then-one xs x f e = sym (and-then-some x xs f (sym e))

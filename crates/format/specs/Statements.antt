@@ -7,7 +7,6 @@ use lib.ListN.{length}
 use Rattle.octets.specs.Bits.{pick}
 use Rattle.octets.specs.Bytes.{bytes-eq, take, all-bytes}
 use Rattle.hkdf.specs.MessageKeys.{commitment}
-use Rattle.gcm.specs.Gcm.{seal, unseal}
 use Rattle.format.specs.Request.{Pair, Request, data-keys-bytes, seal-refusal, well-formed}
 use Rattle.format.specs.Header.{context-bytes, Header, header-bytes, header-of}
 use Rattle.format.specs.Piece.{Piece, frame-bytes, final-bytes}
@@ -57,11 +56,7 @@ unfoldable pub No-beginning-opens : Type 0
 No-beginning-opens =
     (k bs text other : List ℕ) (context ctx : List Pair) (n : ℕ) → open-message k bs ≡ opened context text → n < length bs → (open-message k (take n bs) ≡ opened ctx other) → ⊥
 
--- 6. opening a sealed piece gives the text
-unfoldable pub Open-undoes-seal : Type 0
-Open-undoes-seal =
-    (key nonce aad text : List ℕ) → all-bytes key ≡ true → length key ≡ 32 → all-bytes nonce ≡ true → length nonce ≡ 12 → all-bytes aad ≡ true → all-bytes text ≡ true →
-    unseal key nonce aad (seal key nonce aad text) ≡ text ∷ []
+-- 6. opening a sealed piece gives the text: stated and proved of one piece, in crate gcm (Open-undoes-seal)
 
 -- 7. no two pieces of a message are sealed with the same nonce
 unfoldable pub nonce-among : Piece → List Piece → Bool

@@ -1,14 +1,9 @@
 // What was sealed opens to what it was, with its key and not with another.
-ghost use Rattle.format.specs.Statements.{Sealed-opens, Open-undoes-seal, Other-key};
+ghost use Rattle.format.specs.Statements.{Sealed-opens, Other-key};
 
 // What was sealed opens, with its key, to what it was.
 pub fn sealed_opens()
     ensures { λ _. ⌜ Sealed-opens ⌝ }
-{}
-
-// Opening a sealed piece gives the text.
-pub fn open_undoes_seal()
-    ensures { λ _. ⌜ Open-undoes-seal ⌝ }
 {}
 
 // With a key of another commitment the refusal is 4.
