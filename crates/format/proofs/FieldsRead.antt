@@ -112,10 +112,10 @@ pub record ContextRead (bs : List ℕ) (ps : ReadPairs) : Type 0 where
   pub little : 2 + length (pairs-bytes (ps .pairs)) ≤ 65535
 
 -- pairs that fill a field
-padded : (ps : List Pair) (front rest bs : List ℕ) → 0 < length ps → front ≡ to-bytes 2 (length ps) ++ pairs-bytes ps → fits-field front ≡ true → field front ++ rest ≡ bs → short-pairs ps ≡ true
+filled : (ps : List Pair) (front rest bs : List ℕ) → 0 < length ps → front ≡ to-bytes 2 (length ps) ++ pairs-bytes ps → fits-field front ≡ true → field front ++ rest ≡ bs → short-pairs ps ≡ true
     → ContextRead bs (record { pairs = ps; rest = rest })
-padded [] front rest bs h e s w a = absurd (omega arith)
-padded (p ∷ ps) front rest bs h e s w a =
+filled [] front rest bs h e s w a = absurd (omega arith)
+filled (p ∷ ps) front rest bs h e s w a =
     let l = length-context-body p ps in
     let f : length front ≡ length (context-body (p ∷ ps)) = ap length e in
     let k = leb-true (length front) 65535 s in
@@ -149,7 +149,7 @@ context-read bs ps more bb e =
         let t = two-of (n .front) (length (q .one .pairs)) (n .long) (bn .0) (sym (r .count)) in
         let f : n .rest ≡ pairs-bytes (q .one .pairs) = sym (r .written) ∙ (ap (λ xs. pairs-bytes (q .one .pairs) ++ xs) z ∙ append-nil (pairs-bytes (q .one .pairs))) in
         subst (ContextRead bs) (first-is-first (record { pairs = q .one .pairs; rest = rest }) ps [] more (i .1))
-        (padded (q .one .pairs) front rest bs (ltb-true 0 (length (q .one .pairs)) (i2 .0)) (sym (n .whole) ∙ ap₂ (λ xs ys. xs ++ ys) (t .0) f) s w (r .short-all))
+        (filled (q .one .pairs) front rest bs (ltb-true 0 (length (q .one .pairs)) (i2 .0)) (sym (n .whole) ∙ ap₂ (λ xs ys. xs ++ ys) (t .0) f) s w (r .short-all))
 
 -- what is written can be read
 field-put : (a b : List ℕ) → length a ≤ 65535 → cut-field (field a ++ b) ≡ record { front = a; rest = b } ∷ []

@@ -29,14 +29,15 @@ use Rattle.format.specs.Request.{Pair}
 use Rattle.format.specs.Sealed.{Tag-right}
 use Rattle.format.proofs.Fields.{context-body}
 use Rattle.format.proofs.Frames.{FrameRead, frame-read, frame-written}
-use Rattle.format.proofs.Opening.{after, frames-last, frames-more, last-some, with-frame-some, with-text-some}
+use Rattle.format.proofs.Opening.{after, frames-last, frames-more, last-some, refused-is-opened, with-frame-some, with-text-some}
 use Rattle.format.proofs.Pieces.{In, Numbered, aad-is, all-both, in-all, number-is, numbered-in, numbered-of}
+use Rattle.format.proofs.Steps.{none-is-one}
 
 -- what was sealed opens to its text, whatever is context-body beside
 picked : (b : Bool) (x u : List ℕ) (us : List (List ℕ)) → pick b (x ∷ []) [] ≡ u ∷ us → x ≡ u
 unfolding pick
 picked true x u us e = cc
-picked false x u us e = absurd (let z : _≡_ {A = ℕ} 0 1 = cc in omega arith)
+picked false x u us e = none-is-one _ u us e
 
 unsealed : (key nonce aad context-body t u : List ℕ) (us : List (List ℕ)) (s : Sealed) → length key ≡ 32 → all-bytes t ≡ true
     → s ≡ seal key nonce context-body t → unseal key nonce aad s ≡ u ∷ us → u ≡ t
@@ -49,7 +50,7 @@ unsealed key nonce aad context-body t u us s lk bt es e =
 unsealed-tag-right : (b : Bool) (x u : List ℕ) (us : List (List ℕ)) → pick b (x ∷ []) [] ≡ u ∷ us → b ≡ true
 unfolding pick
 unsealed-tag-right true x u us e = refl
-unsealed-tag-right false x u us e = absurd (let z : _≡_ {A = ℕ} 0 1 = cc in omega arith)
+unsealed-tag-right false x u us e = none-is-one _ u us e
 
 pub frames-tags-right : (k : ℕ) (dk : List ℕ) (h : Header) (n : ℕ) (sofar bs text : List ℕ) (c : List Pair) → open-frames k dk h n sofar bs ≡ opened c text → All Tag-right (frames-in k dk h n bs)
 unfolding open-frames frames-in and-then pick
@@ -165,7 +166,7 @@ module _ (dk : List ℕ) (h : Header) (lk : length dk ≡ 32) (li : length (h .i
       → open-frames k dk h n sofar bs ≡ opened c text → All (λ p. In p (frame-pieces m dk (h .id) (h .frame-length) n t)) (frames-in k dk h n bs)
       → Follows dk h m n sofar bs t text c
   unfolding open-frames frames-in and-then
-  follow zero m n sofar bs t text c hm hn bb bt e a = absurd (let z : _≡_ {A = ℕ} 0 1 = cc in omega arith)
+  follow zero m n sofar bs t text c hm hn bb bt e a = refused-is-opened _ 6 n c text e
   follow (suc k) zero n sofar bs t text c hm hn bb bt e a = absurd (omega arith)
   follow (suc k) (suc m) n sofar bs t text c hm hn bb bt e a =
       let size : ℕ = h .frame-length in

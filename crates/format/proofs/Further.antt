@@ -3,7 +3,6 @@ use mathlib.Core.Path.{ap, refl, sym, _∙_, _≡_}
 use mathlib.Core.Bool.{Bool, false, true, _&&_}
 use mathlib.Core.List.{List, [], append-assoc, _++_, _∷_}
 use Prim.Native.Nat.{suc, zero, ℕ, _+_}
-use native.Mathlib.Omega.{arith}
 use lib.Dec.{eqb, ltb}
 use lib.ListN.{length}
 use Rattle.octets.specs.Bits.{pick}
@@ -12,7 +11,7 @@ use Rattle.octets.specs.Cut.{Cut, and-then, cut, guard}
 use Rattle.octets.proofs.Cuts.{cut-front}
 use Rattle.format.specs.Reading.{ReadDataKeys, ReadFrame, ReadHeader, ReadPairs, cut-field, is-empty, read-context, read-data-keys, read-final, read-frame, read-header, read-pairs, read-regular}
 use Rattle.format.specs.Request.{end-marker, rising}
-use Rattle.format.proofs.Steps.{cut-is, first-is-first}
+use Rattle.format.proofs.Steps.{cut-is, first-is-first, none-is-one}
 
 -- what is read first, with q done to it, is what is read there
 abbrev Grows : {A : Type 0} → (A → A) → List A → List A → Type 0
@@ -20,18 +19,18 @@ Grows {A} q xs ys = (x : A) (more : List A) → xs ≡ x ∷ more → ys ≡ q x
 
 and-then-grows : {A B : Type 0} (p : A → A) (q : B → B) (xs ys : List A) (f g : A → List B) → Grows p xs ys → ((a : A) → Grows q (f a) (g (p a))) → Grows q (and-then xs f) (and-then ys g)
 unfolding and-then
-and-then-grows p q [] ys f g a b x more e = absurd (let z : _≡_ {A = ℕ} 0 1 = cc in omega arith)
+and-then-grows p q [] ys f g a b x more e = none-is-one _ x more e
 and-then-grows p q (y ∷ xs) ys f g a b x more e = ap (λ zs. and-then zs g) (a y xs refl) ∙ b y x more e
 
 and-then-same : {A B : Type 0} (q : B → B) (xs : List A) (f g : A → List B) → ((a : A) → Grows q (f a) (g a)) → Grows q (and-then xs f) (and-then xs g)
 unfolding and-then
-and-then-same q [] f g b x more e = absurd (let z : _≡_ {A = ℕ} 0 1 = cc in omega arith)
+and-then-same q [] f g b x more e = none-is-one _ x more e
 and-then-same q (y ∷ xs) f g b x more e = b y x more e
 
 guard-grows : {A : Type 0} (q : A → A) (b : Bool) (xs ys : List A) → Grows q xs ys → Grows q (guard b xs) (guard b ys)
 unfolding guard
 guard-grows q true xs ys g = g
-guard-grows q false xs ys g = λ x more e. absurd (let z : _≡_ {A = ℕ} 0 1 = cc in omega arith)
+guard-grows q false xs ys g = λ x more e. none-is-one _ x more e
 
 pick-grows : {A : Type 0} (q : A → A) (b : Bool) (xs ys us vs : List A) → Grows q xs ys → Grows q us vs → Grows q (pick b xs us) (pick b ys vs)
 unfolding pick
