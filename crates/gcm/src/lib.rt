@@ -4,11 +4,12 @@ mod counter;
 mod key;
 mod piece;
 mod tag;
-pub mod theorem;
+mod theorem;
 
 pub use key::Key;
 pub use piece::open;
 pub use piece::seal;
+pub use theorem::opening_undoes_sealing;
 
 #[cfg(test)]
 mod tests;

@@ -3,7 +3,7 @@
 mod element;
 mod field;
 mod hash;
-pub mod laws;
+mod laws;
 mod quad;
 mod table;
 
@@ -11,4 +11,5 @@ pub use crate::element::Element;
 pub use crate::field::product;
 pub use crate::hash::hash_block;
 pub use crate::hash::hash_padded;
+pub use crate::laws::product_laws;
 pub use crate::table::Table;
