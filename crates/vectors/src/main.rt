@@ -1,6 +1,7 @@
 // Public test vectors and known messages, run against the library: one line a file, with how many cases came out as expected.
 mod ciphers;
 mod hashes;
+mod messages;
 mod requests;
 mod words;
 

@@ -44,7 +44,10 @@ pub fn read_data_keys(words: &mut Words, heap: Global) -> Result<Vec<OwnedDataKe
     Ok(keys)
 }
 
-pub fn lend_pairs<'a>(heap: Global, owned: &'a [OwnedPair]) -> Result<Vec<Pair<'a, 'a>>, AllocError> {
+pub fn lend_pairs<'a>(
+    heap: Global,
+    owned: &'a [OwnedPair],
+) -> Result<Vec<Pair<'a, 'a>>, AllocError> {
     let mut pairs = Vec::new(heap);
     for p in owned {
         pairs.push(Pair {
