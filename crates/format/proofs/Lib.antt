@@ -6,15 +6,15 @@ pub mod Frames
 pub mod Further
 pub mod KeyLengths
 pub mod Requests
-pub mod Pieces
+mod Pieces
 pub mod Opening
-pub mod Follow
+mod Follow
 pub mod Accounted
 pub mod Lengths
 pub mod Sealing
-pub mod Nonces
+mod Nonces
 pub mod Ends
-pub mod Behind
-pub mod FrameList
-pub mod Changed
-pub mod Shown
+mod Behind
+mod FrameList
+mod Changed
+mod Shown
