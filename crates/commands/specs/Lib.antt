@@ -1,0 +1,2 @@
+pub mod Length
+pub mod Seal

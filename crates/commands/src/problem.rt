@@ -1,0 +1,111 @@
+// What can go wrong, as one line for a person.
+use cli::options::Kind;
+use cli::scan::ScanError;
+use std::fmt;
+use std::io;
+
+#[derive(Clone, Copy)]
+pub enum Action {
+    Read,
+    Write,
+}
+
+#[derive(Clone, Copy)]
+pub enum Problem<'a> {
+    UnknownOption(&'a str),
+    NoValue(Kind),
+    Missing(Kind),
+    Repeated(Kind),
+    Operands,
+    NoPair(&'a str),
+    NameTwice(&'a str),
+    NoDataKey(&'a str),
+    FrameLength,
+    Id,
+    NoKey(&'a str),
+    HeaderTooLong,
+    TextTooLong(&'a str),
+    Exists(&'a str),
+    NoFile(&'a str),
+    File(Action, &'a str, io::Error),
+    Memory,
+}
+
+pub impl<'a> From<ScanError<'a>> for Problem<'a> as ProblemFromScanError {
+    fn from(error: ScanError<'a>) -> Problem<'a> {
+        match error {
+            ScanError::Unknown(word) => Problem::UnknownOption(word),
+            ScanError::NoValue(kind) => Problem::NoValue(kind),
+            ScanError::Memory => Problem::Memory,
+        }
+    }
+}
+
+// How a person writes it.
+fn spelled(kind: Kind) -> &'static str {
+    match kind {
+        Kind::Key => "--key",
+        Kind::DataKey => "--data-key",
+        Kind::Context => "--context",
+        Kind::FrameLength => "--frame-length",
+        Kind::Id => "--id",
+        Kind::Header => "--header",
+        Kind::Force => "--force",
+        Kind::Help => "--help",
+        Kind::Version => "--version",
+        Kind::Operand => "a file",
+    }
+}
+
+pub impl fmt::Display for Action as ActionDisplay {
+    fn fmt<W: fmt::Write>(&self, f: &mut fmt::Formatter<W>) -> fmt::Result {
+        match self {
+            Action::Read => f.write_str("read"),
+            Action::Write => f.write_str("write"),
+        }
+    }
+}
+
+pub impl fmt::Display for Problem<'_> as ProblemDisplay {
+    fn fmt<W: fmt::Write>(&self, f: &mut fmt::Formatter<W>) -> fmt::Result {
+        match *self {
+            Problem::UnknownOption(word) => write!(
+                f,
+                "unknown option {word:?}; --help lists the options"
+            ),
+            Problem::NoValue(kind) => {
+                let option = spelled(kind);
+                write!(f, "{option} needs a value")
+            }
+            Problem::Missing(kind) => {
+                let option = spelled(kind);
+                write!(f, "{option} is missing")
+            }
+            Problem::Repeated(kind) => {
+                let option = spelled(kind);
+                write!(f, "{option} is given more than once")
+            }
+            Problem::Operands => f.write_str("one INPUT and one OUTPUT are needed"),
+            Problem::NoPair(word) => write!(f, "--context {word:?} is not NAME=VALUE"),
+            Problem::NameTwice(name) => write!(f, "--context gives the name {name:?} twice"),
+            Problem::NoDataKey(word) => write!(
+                f,
+                "--data-key {word:?} is not PROVIDER_ID:PROVIDER_INFO:FILE"
+            ),
+            Problem::FrameLength => f.write_str("--frame-length is not a number from 1 to 16384"),
+            Problem::Id => f.write_str("--id is not 64 hexadecimal digits"),
+            Problem::NoKey(path) => write!(
+                f,
+                "{path:?} is not a key: 32 bytes, or 64 hexadecimal digits"
+            ),
+            Problem::HeaderTooLong => f.write_str(
+                "context and encrypted data keys make a header of more than 16384 bytes",
+            ),
+            Problem::TextTooLong(path) => write!(f, "{path:?} has more than 67108864 bytes"),
+            Problem::Exists(path) => write!(f, "{path:?} exists; --force replaces it"),
+            Problem::NoFile(path) => write!(f, "{path:?} is not a regular file"),
+            Problem::File(action, path, error) => write!(f, "cannot {action} {path:?}: {error}"),
+            Problem::Memory => f.write_str("out of memory"),
+        }
+    }
+}
