@@ -7,6 +7,8 @@ mod passed;
 mod refusal;
 mod request;
 pub mod suite;
+#[cfg(test)]
+mod tests;
 mod write;
 
 pub use checks::array_32;
