@@ -3,6 +3,8 @@
 mod cursor;
 mod fields;
 mod read;
+#[cfg(test)]
+mod tests;
 mod types;
 
 pub use cursor::DataKeys;
