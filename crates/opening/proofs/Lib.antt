@@ -1,0 +1,4 @@
+pub mod FrameSize
+pub mod Steps
+pub mod Unlocking
+pub mod Answers

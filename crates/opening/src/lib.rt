@@ -1,0 +1,10 @@
+// Messages opened: whole ones in memory. A message opens only with the key that it was sealed with, and only as it was sealed; the
+// contract of `open` says so. Nothing of a frame is written before its tag was right, and after a refusal the lent bytes are zeros.
+mod frames;
+mod message;
+mod refusal;
+mod unlock;
+
+pub use message::Opened;
+pub use message::open;
+pub use refusal::OpenRefusal;
