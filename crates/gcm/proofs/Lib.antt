@@ -1,4 +1,4 @@
-pub mod Calls
-pub mod Streams
-pub mod Tags
+mod Calls
+mod Streams
+mod Tags
 pub mod Undo

@@ -1,8 +1,8 @@
-pub mod Words
-pub mod Steps
-pub mod Linear
-pub mod Algebra
-pub mod Runs
-pub mod Quads
-pub mod Sixteen
+mod Words
+mod Steps
+mod Linear
+mod Algebra
+mod Runs
+mod Quads
+mod Sixteen
 pub mod Blocks
