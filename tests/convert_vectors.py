@@ -8,10 +8,11 @@ elements' words; what may be missing is `?` where it is.
   hkdf512    salt key info length out
   aes256     key block encrypted
   gcm        key nonce aad sealed tag ok|no text
-  messages   seal key id frame-length lent text context data-keys   (message BYTES | refused N)
-             length key id frame-length text-length context data-keys   (is N | refused N)
-             header message   (is id frame-length commitment tag rest context data-keys | none)
-             open key lent message   (is text context | refused N FRAME)
+  seal       key id frame-length lent text context data-keys   (is message | refused N)
+  length     key id frame-length text-length context data-keys   (is N | refused N)
+  header     message   (is id frame-length commitment tag length-of-rest context data-keys | none)
+  open       key lent message   (is text context | refused N FRAME)
+The last four are whole messages that another implementation made, and their damaged forms.
 """
 import hashlib
 import hmac
@@ -36,21 +37,32 @@ def listed(rows):
     return [str(len(rows))] + [word(x) for row in rows for x in row]
 
 
-def message_case(d):
+def request(d):
+    return listed(d["context"]) + listed(d["holders"])
+
+
+def answer(e, what):
+    return ["refused", word(e["refused"])] if "refused" in e else ["is", word(e[what])]
+
+
+def seal_case(d):
+    return [word(d["key"]), word(d["id"]), word(d["frame"]), word(d["lent"]), word(d["text"])] + request(d) + answer(d["expect"], "message")
+
+
+def length_case(d):
+    return [word(d["key"]), word(d["id"]), word(d["frame"]), word(d["text_length"])] + request(d) + answer(d["expect"], "length")
+
+
+def header_case(d):
+    e, h = d["expect"], d["expect"]["head"]
+    if h is None:
+        return [word(d["message"]), "none"]
+    return [word(d["message"]), "is", h["id"], word(h["frame"]), h["commit"], e["tag"], word(e["rest"])] + request(h)
+
+
+def open_case(d):
     e = d["expect"]
-    if d["kind"] in ("seal", "seal-length"):
-        end = [word(d["text"]) if d["kind"] == "seal" else word(d["text_length"])]
-        out = ["seal" if d["kind"] == "seal" else "length", word(d["key"]), word(d["id"]), word(d["frame"])]
-        out += [word(d["lent"])] if d["kind"] == "seal" else []
-        out += end + listed(d["context"]) + listed(d["holders"])
-        return out + (["refused", word(e["refused"])] if "refused" in e else ["message", e["message"]] if "message" in e else ["is", word(e["length"])])
-    if d["kind"] == "look":
-        h = e["head"]
-        out = ["header", word(d["message"])]
-        if h is None:
-            return out + ["none"]
-        return out + ["is", h["id"], word(h["frame"]), h["commit"], e["tag"], word(e["rest"])] + listed(h["context"]) + listed(h["holders"])
-    out = ["open", d["key"], word(d["lent"]), word(d["message"])]
+    out = [d["key"], word(d["lent"]), word(d["message"])]
     if "refused" in e:
         return out + ["refused"] + [word(n) for n in e["refused"]]
     return out + ["is", word(e["text"])] + listed(e["context"])
@@ -99,7 +111,9 @@ def main(folder):
     write("aes256", [[d["key"], d["text"], d["sealed"]] for d in cases(folder, "aes256")])
     write("gcm", [[d["key"], d["nonce"], word(d["aad"]), word(d["sealed"]), d["tag"], "ok" if d["ok"] else "no", word(d["text"])] for d in cases(folder, "aes256gcm")] + WORKED)
     # a frame length is a number of 32 bits in a request, so a larger one can't be asked for
-    write("messages", [message_case(d) for d in cases(folder, "messages") if d.get("frame", 0) < 1 << 32])
+    messages = [d for d in cases(folder, "messages") if d.get("frame", 0) < 1 << 32]
+    for name, kind, case in (("seal", "seal", seal_case), ("length", "seal-length", length_case), ("header", "look", header_case), ("open", "open", open_case)):
+        write(name, [case(d) for d in messages if d["kind"] == kind])
 
 
 main(sys.argv[1])

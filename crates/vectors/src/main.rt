@@ -16,6 +16,7 @@ enum Suite {
     Hkdf,
     Aes,
     Gcm,
+    Header,
 }
 
 impl Suite {
@@ -26,6 +27,7 @@ impl Suite {
             Suite::Hkdf => "hkdf512.txt",
             Suite::Aes => "aes256.txt",
             Suite::Gcm => "gcm.txt",
+            Suite::Header => "header.txt",
         }
     }
 
@@ -37,6 +39,7 @@ impl Suite {
             Suite::Hkdf => hashes::hkdf_case(heap, line),
             Suite::Aes => ciphers::aes_case(heap, line),
             Suite::Gcm => ciphers::gcm_case(heap, line),
+            Suite::Header => messages::header_case(heap, line),
         }
     }
 }
@@ -66,7 +69,8 @@ fn all(rt: &LibcRuntime) -> Result<(), AnyError> {
     run(rt, Suite::Hmac)?;
     run(rt, Suite::Hkdf)?;
     run(rt, Suite::Aes)?;
-    run(rt, Suite::Gcm)
+    run(rt, Suite::Gcm)?;
+    run(rt, Suite::Header)
 }
 
 fn main(rt: LibcRuntime) -> Result<(), AnyError> {

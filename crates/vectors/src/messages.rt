@@ -1,18 +1,17 @@
 // Whole messages and their headers, made by another implementation: one case a line.
+use crate::requests::read_data_keys;
+use crate::requests::read_pairs;
 use crate::words::Words;
+use header_read::Context;
+use header_read::DataKeysIterator;
+use header_read::EncryptedDataKeys;
+use header_read::PairsIterator;
 use header_read::read_header;
 use std::alloc::Global;
 use std::error::AnyError;
 
-pub fn message_case(heap: Global, line: &str) -> Result<bool, AnyError> {
+pub fn header_case(heap: Global, line: &str) -> Result<bool, AnyError> {
     let mut words = Words::of(line);
-    match words.next()? {
-        "header" => header_case(heap, &mut words),
-        _ => Err("another kind of case".into()),
-    }
-}
-
-fn header_case(heap: Global, words: &mut Words) -> Result<bool, AnyError> {
     let message = words.bytes(heap)?;
     let expected = words.next()?;
     let Some(read) = read_header(message.as_slice()) else {
@@ -26,12 +25,49 @@ fn header_case(heap: Global, words: &mut Words) -> Result<bool, AnyError> {
     let frame_length = words.number()?;
     let commitment = words.bytes(heap)?;
     let tag = words.bytes(heap)?;
-    let rest = words.bytes(heap)?;
+    let rest_len = words.number()?;
     Ok(
         header.id == id.as_slice()
             && header.frame_length as u64 == frame_length
             && header.commitment == commitment.as_slice()
             && read.tag == tag.as_slice()
-            && read.rest == rest.as_slice(),
+            && read.rest.len() as u64 == rest_len,
     )
+}
+
+// The pairs, in order and no more, that the words say.
+fn context_is(context: Context, words: &mut Words, heap: Global) -> Result<bool, AnyError> {
+    let expected = read_pairs(words, heap)?;
+    let mut at = 0usize;
+    let mut right = true;
+    for pair in context.pairs() {
+        right &= match expected.get(at) {
+            Some(e) => pair.name == e.name.as_slice() && pair.value == e.value.as_slice(),
+            None => false,
+        };
+        at = at.saturating_add(1);
+    }
+    Ok(right && at == expected.len())
+}
+
+fn data_keys_are(
+    keys: EncryptedDataKeys,
+    words: &mut Words,
+    heap: Global,
+) -> Result<bool, AnyError> {
+    let expected = read_data_keys(words, heap)?;
+    let mut at = 0usize;
+    let mut right = true;
+    for key in keys.data_keys() {
+        right &= match expected.get(at) {
+            Some(e) => {
+                key.provider_id == e.provider_id.as_slice()
+                    && key.provider_info == e.provider_info.as_slice()
+                    && key.ciphertext == e.ciphertext.as_slice()
+            }
+            None => false,
+        };
+        at = at.saturating_add(1);
+    }
+    Ok(right && at == expected.len())
 }
