@@ -1,7 +1,7 @@
 -- How long fields, pairs, data keys and headers are.
 use mathlib.Core.Path.{_≡_, refl, sym, ap, _∙_}
 use mathlib.Core.Bool.{Bool, true, false, cond, _&&_}
-use mathlib.Core.Logic.{_⊎_, ⊎-elim}
+use mathlib.Core.Logic.{_⊎_}
 use mathlib.Core.List.{List, [], _∷_, _++_}
 use Prim.Native.Nat.{ℕ, suc, _+_, _*_, _≤_, _<_}
 use native.Mathlib.Omega.{arith}
@@ -18,7 +18,7 @@ use Rattle.format.specs.Request as Rq
 use Rattle.format.specs.Request.{field, pairs-bytes, short-pairs, data-keys-bytes, short-data-keys}
 use Rattle.format.specs.Header as Hd
 use Rattle.format.specs.Header.{context-bytes, header-bytes}
-use Rattle.header.specs.Models.{pair, pairs, data-key, data-keys}
+use Rattle.header.specs.Models.{pairs, data-key, data-keys}
 use Rattle.header.specs.Checked.{pairs-length, context-length, short-data-key, data-keys-length}
 use Rattle.header.specs.declared.request.Pair.{Pair}
 use Rattle.header.specs.declared.request.EncryptedDataKey.{EncryptedDataKey}

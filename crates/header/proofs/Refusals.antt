@@ -1,7 +1,7 @@
 -- A request's refusal by its parts: the key, what the header says, and the text.
 use mathlib.Core.Path.{_≡_, refl, sym, ap, _∙_}
 use mathlib.Core.Bool.{Bool, true, false, _&&_}
-use Prim.Native.Nat.{ℕ, _+_, _*_, _≤_, _<_}
+use Prim.Native.Nat.{ℕ, _+_, _≤_, _<_}
 use native.Mathlib.Omega.{arith}
 use lib.Dec.{eqb, leb, ltb}
 use lib.ListN.{length}
@@ -11,7 +11,7 @@ use Rattle.octets.specs.Bits.{pick}
 use Rattle.octets.proofs.Bits.{pick-true, pick-false}
 use Rattle.format.specs.Request as Rq
 use Rattle.format.specs.Request.{rising, short-pairs, pairs-bytes, short-data-keys, end-marker, seal-refusal}
-use Rattle.header.specs.Checked.{array-32, context-length, data-keys-length, text-fits, header-refusal}
+use Rattle.header.specs.Checked.{context-length, data-keys-length, text-fits, header-refusal}
 use Rattle.header.specs.Refusal.{refusal-number}
 use Rattle.header.specs.declared.refusal.SealRefusal.{SealRefusal}
 use Rattle.header.specs.declared.refusal.SealRefusal.the-variants.{OutLength, KeyOrIdOrFrameLength, Context, EncryptedDataKeys, Text}

@@ -1,6 +1,6 @@
 -- Parts of a header written one after another are the whole.
 use mathlib.Core.Path.{_≡_, refl, sym, ap, subst, _∙_}
-use mathlib.Core.Bool.{Bool, true, _&&_}
+use mathlib.Core.Bool.{true}
 use mathlib.Core.List.{List, [], _∷_, _++_, append-assoc}
 use Prim.Native.Nat.{ℕ, suc, _+_, _*_, _≤_, _<_}
 use native.Mathlib.Omega.{arith}
@@ -9,7 +9,7 @@ use Rattle.std.proofs.shelf.Lists.{drop-more, drop-all}
 use Rattle.std.proofs.shelf.Tests.{and-parts, leb-true, eq-eqb, ne-eqb, le-leb, lt-leb}
 use Rattle.octets.specs.Bits.{pick}
 use Rattle.octets.specs.Bytes.{to-bytes}
-use Rattle.octets.specs.Splice.{spliced, Written}
+use Rattle.octets.specs.Splice.{Written}
 use Rattle.octets.proofs.Numbers.{length-to-bytes}
 use Rattle.octets.proofs.Splice.{spliced-none, written-then}
 use Rattle.format.specs.Request as Rq

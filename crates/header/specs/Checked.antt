@@ -1,7 +1,7 @@
 -- What the checks of a request answer. These are definitions: they assume nothing.
 use mathlib.Core.Path.{_≡_}
 use mathlib.Core.Bool.{Bool, cond, _&&_}
-use mathlib.Core.List.{List, []}
+use mathlib.Core.List.{List}
 use Prim.Native.Nat.{ℕ, _+_, _*_}
 use lib.Dec.{eqb, leb, ltb}
 use lib.ListN.{length}
@@ -13,7 +13,7 @@ use Rattle.octets.specs.Bits.{pick}
 use Rattle.format.specs.Request as Rq
 use Rattle.format.specs.Request.{fits-field, rising, short-pairs, pairs-bytes, short-data-keys, data-keys-bytes, end-marker}
 use Rattle.format.specs.Header.{header-bytes}
-use Rattle.header.specs.Models.{pairs, header-with, request-with}
+use Rattle.header.specs.Models.{pairs, header-with}
 use Rattle.header.specs.Refusal.{refusal-number}
 use Rattle.header.specs.declared.refusal.SealRefusal.{SealRefusal}
 use Rattle.header.specs.declared.request.HeaderRequest.{HeaderRequest}

@@ -1,7 +1,6 @@
 // The encrypted data keys of a request: how many, and how long their bytes are.
 ghost use mathlib.Core.Path.{_≡_};
-ghost use Prim.Native.Nat.{_+_, _*_, _<_, _≤_};
-ghost use lib.ListN.{length};
+ghost use Prim.Native.Nat.{_+_, _<_};
 ghost use Rattle.header.specs.Models.{data-key, data-keys};
 ghost use Rattle.header.specs.Checked.{short-data-key, data-keys-length};
 use crate::request::EncryptedDataKey;

@@ -1,22 +1,24 @@
 -- A context, the data keys and a whole header are their parts, read one after another.
 use mathlib.Core.Path.{_≡_, refl, sym, ap, subst, _∙_}
-use mathlib.Core.Bool.{Bool, true, false, _&&_}
+use mathlib.Core.Logic.{⊎-elim}
+use mathlib.Core.Bool.{true, false, _&&_}
 use mathlib.Core.List.{List, [], _∷_}
 use Prim.Native.Nat.{ℕ, _<_}
 use native.Mathlib.Omega.{arith}
 use lib.Dec.{ltb}
-use lib.ListN.{length}
-use Rattle.std.proofs.shelf.Tests.{lt-ltb, le-ltb, and-left, and-right, and-from}
+use lib.ListN.{length, take, drop}
+use lib.Seq.{length-take-le}
+use Rattle.std.proofs.shelf.Tests.{lt-ltb, le-ltb, and-left, and-right, and-from, cases-lt}
 use Rattle.octets.specs.Bytes.{bytes-eq, of-bytes}
 use Rattle.octets.specs.Cut.{Cut, cut, and-then, guard, CutNumber}
-use Rattle.octets.proofs.Cuts.{and-then-ext, and-then-assoc, guard-and-then, the-number}
+use Rattle.octets.proofs.Cuts.{cut-some, cut-none, and-then-ext, and-then-assoc, guard-and-then, the-number}
 use Rattle.format.specs.Request as Rq
 use Rattle.format.specs.Request.{rising}
 use Rattle.format.specs.Reading as Rd
 use Rattle.format.specs.Reading.{ReadPairs, ReadDataKeys, is-empty, read-pairs, read-context, read-data-keys, read-header}
 use Rattle.header_read.specs.Cuts.{listed-pairs, listed-data-keys}
 use Rattle.header_read.specs.Parts.{rising-rest, data-keys-rest, start-part, data-keys-part, frame-length-part}
-use Rattle.header_read.proofs.Steps.{guard-yes, guard-no, guard-gave-none, guard-gave-one, First}
+use Rattle.header_read.proofs.Steps.{guard-yes, guard-no, guard-gave-none, guard-gave-one, First, first-and-then, first-guard}
 use Rattle.header_read.proofs.Listing.{pairs-listed, data-keys-listed}
 
 -- a context of so many pairs in these bytes
@@ -121,3 +123,17 @@ header-by-parts bs =
     and-then-ext (cut 32 (v .rest)) _ _ (λ i. and-then-ext (read-context (i .rest)) _ _ (λ c.
     data-keys-step (c .rest) _ ∙ and-then-ext (cut 2 (c .rest)) _ _ (λ n. ap (λ xs. guard (ltb 0 (of-bytes (n .front))) xs) (
     and-then-ext (read-data-keys (of-bytes (n .front)) (n .rest)) _ _ (λ h. frame-length-step (h .rest) _)))))))
+
+-- how long what is cut is
+cut-long : (n : ℕ) (bs : List ℕ) (xs : List Cut) → cut n bs ≡ xs → First (λ c. length (c .front) ≡ n) xs
+cut-long n bs [] e = tt
+cut-long n bs (c ∷ cs) e = ⊎-elim (λ h. absurd (let z : _≡_ {A = List Cut} [] (c ∷ cs) = cut-none n bs h ∙ e in let y : _≡_ {A = ℕ} 0 1 = cc in omega arith)) (λ h. subst (First (λ d. length (d .front) ≡ n)) (cut-some n bs (take n bs) (drop n bs) h refl refl ∙ e) (length-take-le n bs h)) (cases-lt (length bs) n)
+
+pub id-long : (bs : List ℕ) (c : Cut) → (c ∷ []) ≡ start-part bs → length (c .front) ≡ 32
+id-long bs c e =
+    subst (First (λ d. length (d .front) ≡ 32)) (sym e)
+    (first-and-then (λ v. Unit {0}) (λ d. length (d .front) ≡ 32) (cut 3 bs) (λ v. guard (bytes-eq (v .front) (2 ∷ (4 ∷ (120 ∷ [])))) (cut 32 (v .rest))) (any (cut 3 bs)) (λ v u. first-guard (λ d. length (d .front) ≡ 32) _ (cut 32 (v .rest)) (cut-long 32 (v .rest) (cut 32 (v .rest)) refl)))
+  where
+    any : (xs : List Cut) → First (λ v. Unit {0}) xs
+    any [] = tt
+    any (x ∷ xs) = tt

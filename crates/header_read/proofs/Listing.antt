@@ -1,13 +1,13 @@
 -- What is listed one by one is what is read.
 use mathlib.Core.Path.{_≡_, refl, sym, ap, subst, _∙_}
 use mathlib.Core.List.{List, [], _∷_}
-use Prim.Native.Nat.{ℕ, suc, zero, _-_, _<_}
+use Prim.Native.Nat.{ℕ, suc, zero, _-_}
 use native.Mathlib.Omega.{arith}
 use lib.ListN.{length}
 use Rattle.octets.specs.Cut.{and-then}
-use Rattle.format.specs.Reading.{ReadPairs, ReadDataKeys, cut-field, read-pairs, read-data-keys}
+use Rattle.format.specs.Reading.{read-pairs, read-data-keys}
 use Rattle.header_read.specs.Cuts.{CutPair, cut-pair, CutDataKey, cut-data-key, listed-pairs, listed-data-keys}
-use Rattle.header_read.proofs.Steps.{First, first-and-then, any-first}
+use Rattle.header_read.proofs.Steps.{First, first-and-then}
 use Rattle.header_read.proofs.Walk.{read-pairs-more, with-pair, read-data-keys-more, with-data-key}
 
 -- the next pair, and that there is none

@@ -53,6 +53,7 @@ unfolding and-then
 first-and-then Q P [] f q h = tt
 first-and-then Q P (x ∷ xs) f q h = h x q
 
-pub any-first : {A : Type 0} (xs : List A) → First (λ x. Unit {0}) xs
-any-first [] = tt
-any-first (x ∷ xs) = tt
+pub first-guard : {A : Type 0} (P : A → Type 0) (b : Bool) (xs : List A) → First P xs → First P (guard b xs)
+unfolding guard
+first-guard P true xs h = h
+first-guard P false xs h = tt

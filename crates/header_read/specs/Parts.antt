@@ -1,9 +1,11 @@
 -- The parts of a header as they are read one after another, and what the code's results stand for. These are definitions: they
 -- assume nothing.
+use mathlib.Core.Path.{_≡_}
 use mathlib.Core.List.{List, [], _∷_}
 use Prim.Native.Nat.{ℕ}
 use denote.Ref.{RefT}
 use lib.Dec.{ltb}
+use lib.ListN.{length}
 use Rattle.std.specs.declared.option.Option.{Option}
 use Rattle.std.specs.declared.option.Option.the-variants.{Some, None}
 use Rattle.octets.specs.Bytes.{bytes-eq, of-bytes}
@@ -49,6 +51,16 @@ frame-length-reads (Some n) = record { value = n .0; rest = n .1 .now } ∷ []
 abbrev pub header-reads : Option ReadHeader → List Rd.ReadHeader
 header-reads None = []
 header-reads (Some x) = read-header-in x ∷ []
+
+-- the parts whose lengths are fixed
+pub record FixedLengths (x : ReadHeader) : Type 0 where
+  pub id : length (x .header .id .now) ≡ 32
+  pub commitment : length (x .header .commitment .now) ≡ 32
+  pub tag : length (x .tag .now) ≡ 16
+
+abbrev pub HasFixedLengths : Option ReadHeader → Type 0
+HasFixedLengths None = Unit {0}
+HasFixedLengths (Some x) = FixedLengths x
 
 -- what comes after n pairs whose names rise, and after n data keys
 abbrev pub rising-rest : ℕ → List ℕ → List (List ℕ)

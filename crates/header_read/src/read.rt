@@ -3,7 +3,7 @@ ghost use mathlib.Core.Path.{_≡_};
 ghost use Rattle.octets.specs.Cut.{cuts};
 ghost use Rattle.format.specs.Reading.{read-context, read-header};
 ghost use Rattle.header_read.specs.Cuts.{rests};
-ghost use Rattle.header_read.specs.Parts.{rising-rest, data-keys-rest, context-reads, start-part, data-keys-part, data-keys-reads, frame-length-part, frame-length-reads, header-reads};
+ghost use Rattle.header_read.specs.Parts.{rising-rest, data-keys-rest, context-reads, start-part, data-keys-part, data-keys-reads, frame-length-part, frame-length-reads, header-reads, HasFixedLengths};
 use crate::fields::cut_data_key;
 use crate::fields::cut_field;
 use crate::fields::cut_pair;
@@ -148,6 +148,7 @@ fn cut_frame_length(bytes: &[u8]) -> Option<(u32, &[u8])>
 // The header of a message, its tag, and what comes after, with no key; none if the message begins with no header.
 pub fn read_header(message: &[u8]) -> Option<ReadHeader<'_>>
     ensures value { λ r. ⌜ header-reads r ≡ read-header (now (message .entry)) ⌝ }
+    ensures lengths { λ r. ⌜ HasFixedLengths r ⌝ }
 {
     let Some((id, more)) = cut_id(message) else {
         return None;

@@ -1,4 +1,3 @@
-use mathlib.Core.Path.{_∙_, ap, sym}
 use mathlib.Core.List.{[]}
 use borrow.Author.Needs.{needs}
 use native.Mathlib.Omega.{arith}

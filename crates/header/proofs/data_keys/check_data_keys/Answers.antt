@@ -3,7 +3,7 @@ use mathlib.Core.Logic.{inl, inr}
 use native.Mathlib.Omega.{arith}
 use borrow.Author.Tests.{eqb-true, false-eqb}
 use Rattle.header.specs.Models.{data-keys}
-use Rattle.header.proofs.Lengths.{data-keys-none-or-many, data-keys-more, short-data-keys-more, short-data-keys-not, data-keys-part-long, data-keys-fit, data-keys-end, short-three, no-data-key}
+use Rattle.header.proofs.Lengths.{data-keys-none-or-many, data-keys-more, short-data-keys-more, short-data-keys-not, data-keys-part-long, data-keys-fit, data-keys-end, short-three}
 use Rattle.header.proofs.data_keys.check_data_keys.Needs as need
 use Rattle.header.proofs.data_keys.check_data_keys.Needs.{then-is-empty·by·then-is-empty, then-is-empty·by·else-is-empty·then-keys-gt-MAX-FIELD}
 

@@ -1,6 +1,5 @@
 use native.Mathlib.Omega.{arith}
 use lib.ListN.{length}
-use Rattle.octets.specs.Bytes.{to-bytes}
 use Rattle.octets.proofs.Numbers.{length-to-bytes}
 use Rattle.octets.proofs.Splice.{written-then}
 use Rattle.header.proofs.write.put_field.Needs as need

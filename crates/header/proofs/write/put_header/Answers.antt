@@ -1,4 +1,4 @@
-use mathlib.Core.Path.{ap, sym, subst}
+use mathlib.Core.Path.{sym, subst}
 use mathlib.Core.List.{[]}
 use native.Mathlib.Omega.{arith}
 use lib.ListN.{length}
