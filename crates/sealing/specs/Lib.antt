@@ -1,0 +1,3 @@
+pub mod Whole
+pub mod Answers
+pub mod Calls
