@@ -72,7 +72,7 @@ pub fn gcm_case(heap: Global, line: &str) -> Result<bool, AnyError> {
     Ok(made == Some(tag) && out.as_slice() == sealed.as_slice())
 }
 
-fn all_zero(bytes: &[u8]) -> bool {
+pub fn all_zero(bytes: &[u8]) -> bool {
     let mut any = 0u8;
     for b in bytes {
         any |= *b;

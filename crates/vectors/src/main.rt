@@ -17,6 +17,7 @@ enum Suite {
     Aes,
     Gcm,
     Header,
+    Open,
 }
 
 impl Suite {
@@ -28,6 +29,7 @@ impl Suite {
             Suite::Aes => "aes256.txt",
             Suite::Gcm => "gcm.txt",
             Suite::Header => "header.txt",
+            Suite::Open => "open.txt",
         }
     }
 
@@ -40,6 +42,7 @@ impl Suite {
             Suite::Aes => ciphers::aes_case(heap, line),
             Suite::Gcm => ciphers::gcm_case(heap, line),
             Suite::Header => messages::header_case(heap, line),
+            Suite::Open => messages::open_case(heap, line),
         }
     }
 }
@@ -70,7 +73,8 @@ fn all(rt: &LibcRuntime) -> Result<(), AnyError> {
     run(rt, Suite::Hkdf)?;
     run(rt, Suite::Aes)?;
     run(rt, Suite::Gcm)?;
-    run(rt, Suite::Header)
+    run(rt, Suite::Header)?;
+    run(rt, Suite::Open)
 }
 
 fn main(rt: LibcRuntime) -> Result<(), AnyError> {

@@ -1,4 +1,5 @@
 // Whole messages and their headers, made by another implementation: one case a line.
+use crate::ciphers::all_zero;
 use crate::requests::read_data_keys;
 use crate::requests::read_pairs;
 use crate::words::Words;
@@ -70,4 +71,48 @@ fn data_keys_are(
         at = at.saturating_add(1);
     }
     Ok(right && at == expected.len())
+}
+
+// Opened, or refused with the number and the frame that are expected; what is lent holds the text and zeros, or zeros.
+pub fn open_case(heap: Global, line: &str) -> Result<bool, AnyError> {
+    let mut words = Words::of(line);
+    let key = words.fixed::<32>(heap)?;
+    let lent = words.number()?;
+    let message = words.bytes(heap)?;
+    let expected = words.next()?;
+    let mut out = vec![in heap; 170u8; usize::try_from(lent)?]?;
+    let answer = opening::open(&key, message.as_slice(), out.as_mut_slice());
+    match answer {
+        Ok(opened) => {
+            if expected != "is" {
+                return Ok(false);
+            }
+            let text = words.bytes(heap)?;
+            let same_context = context_is(opened.context, &mut words, heap)?;
+            Ok(
+                same_context
+                    && opened.len == text.len()
+                    && text_and_zeros(text.as_slice(), out.as_slice()),
+            )
+        }
+        Err(refusal) => {
+            if expected != "refused" {
+                return Ok(false);
+            }
+            let number = words.number()?;
+            let frame = words.number()?;
+            Ok(
+                refusal.number() as u64 == number
+                    && refusal.frame() as u64 == frame
+                    && all_zero(out.as_slice()),
+            )
+        }
+    }
+}
+
+fn text_and_zeros(text: &[u8], out: &[u8]) -> bool {
+    let Some((front, rest)) = octets::cut(out, text.len()) else {
+        return false;
+    };
+    front == text && all_zero(rest)
 }
