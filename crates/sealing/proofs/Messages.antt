@@ -15,7 +15,8 @@ use Rattle.format.specs.Request as Rq
 use Rattle.format.specs.Request.{end-marker, pairs-bytes, data-keys-bytes}
 use Rattle.format.specs.Header.{context-bytes, header-bytes, header-of}
 use Rattle.format.specs.Message.{frames}
-use Rattle.format.proofs.Lengths.{key-long, tag-long, commitment-long, length-frames}
+use Rattle.format.proofs.KeyLengths.{length-sealing-key, length-commitment}
+use Rattle.format.proofs.Lengths.{tag-long, length-frames}
 use Rattle.header.specs.Models.{request-with, pairs, data-keys}
 use Rattle.header.specs.Checked.{text-fits, header-refusal, HandsOnHeader, data-keys-length}
 use Rattle.header.specs.Written.{asked-bytes}
@@ -48,7 +49,7 @@ length-start key h t =
 
 pub length-message : (r : Rq.Request) → 0 < r .frame-length → length (sealed-message r) ≡ length (start r) + frames-length (length (r .text)) (r .frame-length)
 length-message r p =
-    let k = key-long r in
+    let k = length-sealing-key (r .key) (r .id) in
     sym (ap length (message-is r)) ∙ length-append (start r) _ ∙ ap (λ n. length (start r) + n) (length-frames (suc (length (r .text))) (sealing-key (r .key) (r .id)) (r .id) (r .frame-length) 1 (r .text) k p (omega arith))
 
 -- a header written, and its tag behind it
@@ -78,7 +79,7 @@ whole r old mid part first at k w p l lk q =
 
 -- room for the start, and for the frames behind it
 pub start-as-checked : (key : List ℕ) (h : HeaderRequest) (t : List ℕ) (c : CheckedHeader) → HandsOnHeader h c → length (start (request-with key h t)) ≡ c .«header_len» + 16
-start-as-checked key h t c g = length-start key h t ∙ ap (λ n. n + 16) (sym (g .header-long (commitment key (h .id .now)) (commitment-long key (h .id .now))))
+start-as-checked key h t c g = length-start key h t ∙ ap (λ n. n + 16) (sym (g .header-long (commitment key (h .id .now)) (length-commitment key (h .id .now))))
 
 at-most : (a b f n : ℕ) → a ≡ b → n ≡ b + f → a ≤ n
 at-most a b f n p q = omega arith
@@ -108,12 +109,12 @@ pub header-short : (h : HeaderRequest) (c : CheckedHeader) → header-refusal (r
 header-short h c e t =
     let p = header-passed (request-with [] h []) (sym e) in
     let k = commitment [] (h .id .now) in
-    let long = t .header-long k (commitment-long [] (h .id .now)) in
+    let long = t .header-long k (length-commitment [] (h .id .now)) in
     let keys = data-keys-told (data-keys (h .«encrypted_data_keys» .now)) _ (sym (cond-true _ _ _ (and-from _ _ (and-from _ _ (lt-ltb _ _ (p .some-data-keys)) (le-leb _ _ (p .few-data-keys))) (p .short-data-keys)))) in
     let pairs-fit = p .context-fits in
     let ctx = context-short (h .context .now) in
     let parts = length-header (record { id = h .id .now; context = pairs (h .context .now); encrypted-data-keys = data-keys (h .«encrypted_data_keys» .now); frame-length = h .«frame_length»; commitment = k }) in
-    let c32 = commitment-long [] (h .id .now) in
+    let c32 = length-commitment [] (h .id .now) in
     let i32 = p .id in
     let kf = keys .fits in
     omega arith

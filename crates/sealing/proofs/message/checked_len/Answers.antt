@@ -4,7 +4,7 @@ use Prim.Native.Nat.{_+_, _<_}
 use native.Mathlib.Omega.{arith}
 use lib.ListN.{length}
 use Rattle.hkdf.specs.MessageKeys.{commitment}
-use Rattle.format.proofs.Lengths.{commitment-long}
+use Rattle.format.proofs.KeyLengths.{length-commitment}
 use Rattle.header.specs.Models.{request-with}
 use Rattle.header.proofs.Refusals.{header-passed}
 use Rattle.sealing.specs.Whole.{frames-length}
@@ -34,6 +34,6 @@ pub returns : need.returns
 returns c = λ key t l.
     let p = header-passed (request-with [] (c .args .header) []) (sym (c .pre .passed)) in
     let id = c .args .header .id .now in
-    ap₂ (λ a b. a + 16 + b) (c .pre .checked .header-long (commitment key (c .args .header .id .now)) (commitment-long key (c .args .header .id .now)))
+    ap₂ (λ a b. a + 16 + b) (c .pre .checked .header-long (commitment key (c .args .header .id .now)) (length-commitment key (c .args .header .id .now)))
     (c .frames-len .ensures ∙ ap (λ n. frames-length n (c .args .header .«frame_length»)) (sym l))
     ∙ ap (λ n. n + frames-length (length t) (c .args .header .«frame_length»)) (sym (length-start key (c .args .header) t)) ∙ sym (length-message (request-with key (c .args .header) t) (p .frame-length))

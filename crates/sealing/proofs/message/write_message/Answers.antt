@@ -5,7 +5,7 @@ use lib.ListN.{length}
 use Rattle.hkdf.specs.MessageKeys.{sealing-key, commitment}
 use Rattle.gcm.specs.Key.{key-of}
 use Rattle.format.specs.Message.{frames}
-use Rattle.format.proofs.Lengths.{key-long}
+use Rattle.format.proofs.KeyLengths.{length-sealing-key}
 use Rattle.header.specs.Models.{request-of}
 use Rattle.header.proofs.Refusals.{header-passed}
 use Rattle.sealing.proofs.Answered.{passed-parts}
@@ -35,7 +35,7 @@ seal-frames-requires c κs =
       some = low;
       few = text-short _ _ (parts .1) .0;
       room = part-long (c .write-start-at .last .out) (c .write-start-at .result) (length (c .write-start-at .last .out)) (omega arith) (omega arith) ∙ room;
-      long = ap length cipher ∙ key-long (request-of (c .args .request));
+      long = ap length cipher ∙ length-sealing-key (c .args .request .key .now) (c .args .request .header .id .now);
     }
 
 pub returns : need.returns
