@@ -17,3 +17,32 @@ pub fn parse_key(bytes: &[u8]) -> Option<[u8; 32]>
     }
     unhex32(bytes)
 }
+
+#[cfg(test)]
+mod tests {
+    use super::*;
+    use std::test::*;
+
+    const DIGITS: &[u8; 64] = b"000102030405060708090a0b0c0d0e0f101112131415161718191A1B1C1D1E1F";
+
+    #[test]
+    fn keys() -> Result<(), Fail> {
+        let raw = parse_key(b"0123456789abcdefghijklmnopqrstuv").ok_or("32 bytes")?;
+        check(raw[0] == b'0' && raw[31] == b'v')?;
+        let key = parse_key(DIGITS).ok_or("64 digits")?;
+        check(key[0] == 0 && key[10] == 10 && key[26] == 0x1a && key[31] == 0x1f)
+    }
+
+    #[test]
+    fn no_keys() -> Result<(), Fail> {
+        check(parse_key(b"").is_none())?;
+        check(parse_key(b"0123456789abcdefghijklmnopqrstu").is_none())?;
+        check(parse_key(&DIGITS[0..63]).is_none())?;
+        check(parse_key(
+            b"000102030405060708090a0b0c0d0e0f101112131415161718191a1b1c1d1eg0",
+        ).is_none())?;
+        check(parse_key(
+            b"000102030405060708090a0b0c0d0e0f101112131415161718191a1b1c1d1e1f\r",
+        ).is_none())
+    }
+}

@@ -13,7 +13,7 @@ use Rattle.cli.specs.Context.{NamedValue, with-pair}
 use Rattle.cli.specs.Scan.{now-of}
 use Rattle.cli.specs.Split.{Parts, parts, split-first, DataKeyParts, data-key-parts, split-data-key}
 use Rattle.cli.specs.declared.split.DataKeyWord.{DataKeyWord}
-use Rattle.commands.specs.Seal.{put-pair, then-on, context-from, some-parts}
+use Rattle.commands.specs.Given.{put-pair, then-on, context-from, some-parts}
 
 pub pair-more : (ws : List (RefT (List ℕ))) (i : ℕ) (d n v : RefT (List ℕ)) (ps qs : List NamedValue) → i < length ws → mapped parts (Some (n, v)) ≡ split-first 61 (getD ws i d .now)
     → with-pair (record { name = n .now; value = v .now }) ps ≡ Some qs → context-from qs (map now-of (drop (i + 1) ws)) ≡ context-from ps (map now-of (drop i ws))

@@ -28,6 +28,7 @@ pub enum Problem<'a> {
     Exists(&'a str),
     NoFile(&'a str),
     File(Action, &'a str, io::Error),
+    NoText,
     Memory,
 }
 
@@ -105,6 +106,7 @@ pub impl fmt::Display for Problem<'_> as ProblemDisplay {
             Problem::Exists(path) => write!(f, "{path:?} exists; --force replaces it"),
             Problem::NoFile(path) => write!(f, "{path:?} is not a regular file"),
             Problem::File(action, path, error) => write!(f, "cannot {action} {path:?}: {error}"),
+            Problem::NoText => f.write_str("a word of the command line is not UTF-8"),
             Problem::Memory => f.write_str("out of memory"),
         }
     }

@@ -81,3 +81,27 @@ fn sync_folder(rt: &LibcRuntime, place: &str) -> io::Result<()> {
     let name = if folder.is_empty() { "." } else { folder };
     File::open(rt, name)?.sync_all()
 }
+
+#[cfg(test)]
+mod tests {
+    use super::*;
+    use std::test::*;
+
+    fn made(rt: &LibcRuntime, place: &str, text: &str, replace: bool) -> io::Result<()> {
+        let mut file = NewFile::create(rt, place)?;
+        file.write(text.as_bytes())?;
+        file.finish(rt, place, replace)
+    }
+
+    #[test]
+    fn takes_its_place(rt: LibcRuntime) -> Result<(), Fail> {
+        made(&rt, "new_file.test", "one", false)?;
+        check(made(&rt, "new_file.test", "two", false).is_err())?;
+        check(fs::read_to_string(&rt, "new_file.test")?.as_str() == "one")?;
+        made(&rt, "new_file.test", "three", true)?;
+        check(fs::read_to_string(&rt, "new_file.test")?.as_str() == "three")?;
+        NewFile::create(&rt, "new_file.test")?.discard(&rt);
+        fs::remove_file(&rt, "new_file.test")?;
+        Ok(())
+    }
+}

@@ -5,8 +5,10 @@ use cli::options::Kind;
 use cli::options::Program;
 use cli::scan::Given;
 use cli::scan::scan;
-use cli::scan::values;
 use cli::split::DataKeyWord;
+use commands::context::context_of;
+use commands::data_keys::data_keys_of;
+use commands::given::is_given;
 use commands::length::message_len;
 use commands::limits::MAX_HEADER;
 use commands::limits::MAX_TEXT;
@@ -15,8 +17,6 @@ use commands::problem::Problem;
 use commands::problem::ProblemDisplay;
 use commands::problem::ProblemFromScanError;
 use commands::seal::SealCommand;
-use commands::seal::context_of;
-use commands::seal::data_keys_of;
 use commands::seal::seal_command;
 use files::read::file_len;
 use files::read::random_32;
@@ -29,6 +29,7 @@ use header::check_header;
 use octets::clear;
 use std::env;
 use std::fs;
+use std::io;
 
 const VERSION: &str = "strongbox-seal 1.0.0";
 
@@ -73,12 +74,21 @@ fn main(rt: LibcRuntime) -> Result<(), Failed> {
     }
 }
 
+// A word that isn't UTF-8, or no memory for the words.
+fn no_words(error: io::Error) -> Problem<'static> {
+    if error.kind() == io::ErrorKind::InvalidData {
+        Problem::NoText
+    } else {
+        Problem::Memory
+    }
+}
+
 fn run<'a>(rt: &LibcRuntime, words: &'a [String]) -> Result<(), Problem<'a>> {
     let given = scan(rt.alloc(), Program::Seal, words)?;
-    if is_given(rt, given.as_slice(), Kind::Help)? {
+    if is_given(rt.alloc(), given.as_slice(), Kind::Help)? {
         return say(rt, HELP);
     }
-    if is_given(rt, given.as_slice(), Kind::Version)? {
+    if is_given(rt.alloc(), given.as_slice(), Kind::Version)? {
         return say(rt, VERSION);
     }
     let command = seal_command(rt.alloc(), given.as_slice())?;
@@ -86,13 +96,6 @@ fn run<'a>(rt: &LibcRuntime, words: &'a [String]) -> Result<(), Problem<'a>> {
     let result = seal_with(rt, command, given.as_slice(), &mut key);
     clear(&mut key);
     result
-}
-
-fn is_given<'a>(rt: &LibcRuntime, given: &[Given<'a>], kind: Kind) -> Result<bool, Problem<'a>> {
-    match values(rt.alloc(), given, kind) {
-        Ok(all) => Ok(!all.is_empty()),
-        Err(_) => Err(Problem::Memory),
-    }
 }
 
 fn say<'a>(rt: &LibcRuntime, line: &str) -> Result<(), Problem<'a>> {
@@ -239,6 +242,7 @@ fn text_len<'a>(rt: &LibcRuntime, path: &'a str) -> Result<u64, Problem<'a>> {
 
 fn report<'a>(rt: &LibcRuntime, request: HeaderRequest, text: u64) -> Result<(), Problem<'a>> {
     let frame_length = request.frame_length;
+    // Names rise and there is a data key, so a header that is refused is too long.
     let Ok(checked) = check_header(request) else {
         return Err(Problem::HeaderTooLong);
     };

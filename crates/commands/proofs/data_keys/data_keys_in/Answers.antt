@@ -5,9 +5,9 @@ use Rattle.std.proofs.shelf.Tests.{cond-true}
 use Rattle.std.specs.Of.Vec.{vec-items}
 use Rattle.cli.specs.Scan.{now-of}
 use Rattle.cli.specs.Split.{split-data-key}
-use Rattle.commands.specs.Seal.{some-parts}
+use Rattle.commands.specs.Given.{some-parts}
 use Rattle.commands.proofs.Turns.{data-key-more, data-keys-end}
-use Rattle.commands.proofs.seal.data_keys_in.Needs as need
+use Rattle.commands.proofs.data_keys.data_keys_in.Needs as need
 
 pub loop-word-holds : need.loop-word-holds
 loop-word-holds c = ap (λ ws. map some-parts ws ++ map split-data-key (map now-of (c .args .words .now))) (c .new-all .ensures .items)

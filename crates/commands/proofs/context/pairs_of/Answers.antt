@@ -3,9 +3,9 @@ use mathlib.Core.List.{map}
 use Rattle.std.specs.Of.Vec.{vec-items}
 use Rattle.cli.specs.Context.{pair-of, rising}
 use Rattle.cli.specs.Scan.{now-of}
-use Rattle.commands.specs.Seal.{context-from}
+use Rattle.commands.specs.Given.{context-from}
 use Rattle.commands.proofs.Turns.{pair-more, pairs-end}
-use Rattle.commands.proofs.seal.pairs_of.Needs as need
+use Rattle.commands.proofs.context.pairs_of.Needs as need
 
 pub loop-word-holds : need.loop-word-holds
 unfolding rising

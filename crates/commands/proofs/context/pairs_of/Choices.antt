@@ -5,8 +5,8 @@ use lib.ListN.{drop}
 use Rattle.std.specs.Of.Vec.{vec-items}
 use Rattle.cli.specs.Context.{pair-of, rising}
 use Rattle.cli.specs.Scan.{now-of}
-use Rattle.commands.specs.Seal.{context-from}
-use Rattle.commands.proofs.seal.pairs_of.Given as given
+use Rattle.commands.specs.Given.{context-from}
+use Rattle.commands.proofs.context.pairs_of.Given as given
 
 abbrev pub Inv-loop-word : given.InvT-loop-word
 Inv-loop-word l =
