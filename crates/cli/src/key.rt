@@ -37,7 +37,9 @@ mod tests {
     fn no_keys() -> Result<(), Fail> {
         check(parse_key(b"").is_none())?;
         check(parse_key(b"0123456789abcdefghijklmnopqrstu").is_none())?;
-        check(parse_key(&DIGITS[0..63]).is_none())?;
+        check(parse_key(
+            b"000102030405060708090a0b0c0d0e0f101112131415161718191a1b1c1d1e1",
+        ).is_none())?;
         check(parse_key(
             b"000102030405060708090a0b0c0d0e0f101112131415161718191a1b1c1d1eg0",
         ).is_none())?;
