@@ -1,12 +1,12 @@
 -- A header that was read: where its parts end, and what the checks of its commitment and its tag say of the message.
 use mathlib.Core.Path.{_≡_, refl, sym, ap, _∙_}
 use mathlib.Core.Bool.{Bool, true, false, _&&_}
-use mathlib.Core.List.{List, [], _∷_, _++_}
+use mathlib.Core.List.{List, [], _∷_, _++_, append-assoc}
 use Prim.Native.Nat.{ℕ, suc, _+_, _-_, _<_}
 use native.Mathlib.Omega.{arith}
 use lib.ListN as L
 use lib.ListN.{length, getD, length-append}
-use lib.Seq.{take-at}
+use lib.Seq.{take-at, drop-at}
 use Rattle.std.proofs.shelf.Tests.{and-from, lt-ltb}
 use Rattle.octets.specs.Bytes.{all-bytes, bytes-eq}
 use Rattle.octets.proofs.Bits.{pick-true, pick-false}
@@ -25,10 +25,18 @@ unfolding all-bytes
 all-bytes-of [] h = refl
 all-bytes-of (x ∷ xs) h = and-from _ _ (lt-ltb x 256 (h 0)) (all-bytes-of xs (λ i. h (suc i)))
 
+-- what comes after the front of bytes
+pub drop-front : (a rest bs : List ℕ) → a ++ rest ≡ bs → L.drop (length bs - length rest) bs ≡ rest
+drop-front a rest bs e =
+    let s = length-append a rest in
+    let l = ap length e in
+    ap (λ l. L.drop (length bs - length rest) l) (sym e) ∙ drop-at a rest (length bs - length rest) (omega arith)
+
 -- where the parts of a header that was read end
 pub record Split (bs : List ℕ) (x : ReadHeader) : Type 0 where
   pub sum : length (header-bytes (x .header)) + (length (x .tag) + length (x .rest)) ≡ length bs
   pub front : (end : ℕ) → end ≡ length bs - length (x .rest) - length (x .tag) → L.take end bs ≡ header-bytes (x .header)
+  pub rest : L.drop (length bs - length (x .rest)) bs ≡ x .rest
   pub id : length (x .header .id) ≡ 32
 
 pub split : (bs : List ℕ) (x : ReadHeader) → ((i : ℕ) → getD bs i 0 < 256) → (x ∷ []) ≡ read-header bs → Split bs x
@@ -42,6 +50,7 @@ split bs x h e =
     record {
       sum = omega arith;
       front = λ end f. sym (ap (λ ys. L.take end ys) w) ∙ take-at b (x .tag ++ x .rest) end (omega arith);
+      rest = drop-front (b ++ x .tag) (x .rest) bs (append-assoc b (x .tag) (x .rest) ∙ w);
       id = r .fits .id-long;
     }
 

@@ -1,3 +1,4 @@
 pub mod Refusal
 pub mod Unlocked
 pub mod Answer
+pub mod Opener
