@@ -1,5 +1,7 @@
 // Headers of messages to be sealed: what a request says, the checks that it has to pass, how long its header is, and the header
 // written into lent bytes.
+// Promised: a request is refused by the first check that it fails, with the number that the format gives that refusal; what is
+// written is the format's header, byte for byte, and nothing else changes; where it is refused, nothing is written.
 mod checks;
 mod context;
 mod data_keys;
