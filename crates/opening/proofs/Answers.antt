@@ -16,10 +16,10 @@ use Rattle.std.specs.declared.result.Result.{Result}
 use Rattle.std.specs.declared.result.Result.the-variants.{Ok, Err}
 use Rattle.octets.specs.Bytes.{all-bytes, repeat}
 use Rattle.octets.proofs.Bits.{pick-true, pick-false}
-use Rattle.format.specs.Request.{Request}
+use Rattle.format.specs.Request.{Pair, Request}
 use Rattle.format.specs.Opening as Opening
 use Rattle.format.specs.Opening.{opened, not-opened}
-use Rattle.format.specs.Sealed.{all-good, What-opens-was-sealed}
+use Rattle.format.specs.Sealed.{all-good, Accounted, What-opens-was-sealed}
 use Rattle.format.proofs.Accounted.{what-opens-was-sealed}
 use Rattle.header_read.specs.Parts.{pairs-in}
 use Rattle.opening.specs.Answer.{answer, text-len, opening, open-answer, Accounts}
@@ -53,9 +53,12 @@ opened-zeros r o out zs k n h l e en z =
     ∙ ap (λ i. repeat i 0) (let s : k ≡ n - o .len = omega arith in s) ∙ sym (ap (λ q. repeat (n - text-len q) 0) h)
 
 -- what opened was sealed
-pub accounts : (rs : List Request) (k bs : List ℕ) (r : Result Opened OpenRefusal) (out : List ℕ) → all-good rs ≡ true → all-bytes bs ≡ true → answer r out ≡ opening k bs → Accounts rs k bs r out
+pub accounted : (rs : List Request) (k bs text : List ℕ) (context : List Pair) → all-good rs ≡ true → all-bytes bs ≡ true → opening k bs ≡ opened context text → Accounted rs k bs context text
 unfolding opening What-opens-was-sealed
-accounts rs k bs (Ok o) out g b e = what-opens-was-sealed rs k bs (L.take (o .len) out) (pairs-in (o .context)) g b (sym e)
+accounted rs k bs text context g b e = what-opens-was-sealed rs k bs text context g b e
+
+pub accounts : (rs : List Request) (k bs : List ℕ) (r : Result Opened OpenRefusal) (out : List ℕ) → all-good rs ≡ true → all-bytes bs ≡ true → answer r out ≡ opening k bs → Accounts rs k bs r out
+accounts rs k bs (Ok o) out g b e = accounted rs k bs (L.take (o .len) out) (pairs-in (o .context)) g b (sym e)
 accounts rs k bs (Err e) out g b h = tt
 
 pub refused-accounts : (rs : List Request) (k bs : List ℕ) (r : Result Opened OpenRefusal) (e : OpenRefusal) (out : List ℕ) → r ≡ Err e → Accounts rs k bs r out

@@ -4,3 +4,4 @@ pub mod Unlocking
 pub mod Answers
 pub mod Enough
 pub mod FrameByFrame
+pub mod Joins

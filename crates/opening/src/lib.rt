@@ -2,6 +2,7 @@
 // was sealed; the contract of `open` says so. Nothing of a frame is written before its tag was right, and after a refusal the lent bytes
 // are zeros.
 mod frames;
+pub mod joined;
 mod message;
 mod opener;
 mod refusal;
