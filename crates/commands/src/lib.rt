@@ -3,7 +3,6 @@
 pub mod context;
 pub mod data_keys;
 pub mod given;
-pub mod length;
 pub mod limits;
 pub mod problem;
 pub mod seal;

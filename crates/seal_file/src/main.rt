@@ -1,16 +1,14 @@
-// Seals a file. It checks what it is given, and says how long the message is; nothing is sealed yet.
-use cli::context::Pair as NamedValue;
-use cli::key::parse_key;
+// Seals a file: the message stands under a name of its own until it is whole, and then takes OUTPUT's place.
+mod inputs;
+mod message;
+
 use cli::options::Kind;
 use cli::options::Program;
 use cli::scan::Given;
 use cli::scan::scan;
-use cli::split::DataKeyWord;
 use commands::context::context_of;
 use commands::data_keys::data_keys_of;
 use commands::given::is_given;
-use commands::length::message_len;
-use commands::limits::MAX_HEADER;
 use commands::limits::MAX_TEXT;
 use commands::problem::Action;
 use commands::problem::Problem;
@@ -19,13 +17,13 @@ use commands::problem::ProblemFromScanError;
 use commands::seal::SealCommand;
 use commands::seal::seal_command;
 use files::read::file_len;
-use files::read::random_32;
-use files::read::read_start;
-use files::read::read_whole;
-use header::EncryptedDataKey;
 use header::HeaderRequest;
-use header::Pair;
-use header::check_header;
+use inputs::encrypted_keys;
+use inputs::message_id;
+use inputs::pairs_of;
+use inputs::read_data_keys;
+use inputs::read_key;
+use message::seal_file;
 use octets::clear;
 use std::env;
 use std::fs;
@@ -105,7 +103,7 @@ fn say<'a>(rt: &LibcRuntime, line: &str) -> Result<(), Problem<'a>> {
     }
 }
 
-// Reads what the command names; the key goes into lent bytes, which the caller clears.
+// Reads what the command names, and seals; the key goes into lent bytes, which the caller clears.
 fn seal_with<'a>(
     rt: &LibcRuntime,
     command: SealCommand<'a>,
@@ -114,107 +112,24 @@ fn seal_with<'a>(
 ) -> Result<(), Problem<'a>> {
     let context = context_of(rt.alloc(), given)?;
     let words = data_keys_of(rt.alloc(), given)?;
+    check_output(rt, command)?;
+    check_input(rt, command.input)?;
     read_key(rt, command.key, key)?;
     let ciphertexts = read_data_keys(rt, words.as_slice())?;
     let pairs = pairs_of(rt, context.as_slice())?;
     let data_keys = encrypted_keys(rt, words.as_slice(), ciphertexts.as_slice())?;
     let id = message_id(rt, command.id)?;
-    check_output(rt, command)?;
-    let text = text_len(rt, command.input)?;
-    let request = HeaderRequest {
+    let header = HeaderRequest {
         id: &id,
         context: pairs.as_slice(),
         encrypted_data_keys: data_keys.as_slice(),
         frame_length: command.frame_length,
     };
-    report(rt, request, text)
+    let len = seal_file(rt, command, key, header)?;
+    report(rt, len)
 }
 
-// The key in a file; what was read is cleared.
-fn read_key<'a>(rt: &LibcRuntime, path: &'a str, key: &mut [u8; 32]) -> Result<(), Problem<'a>> {
-    let mut bytes = [0; 66];
-    let parsed = match read_start(rt, path, &mut bytes) {
-        Ok(n) => Ok(parse_key(&bytes[0..n])),
-        Err(error) => Err(Problem::File(Action::Read, path, error)),
-    };
-    clear(&mut bytes);
-    let Some(found) = parsed? else {
-        return Err(Problem::NoKey(path));
-    };
-    key.copy_from_slice(&found);
-    Ok(())
-}
-
-// The bytes of each encrypted data key.
-fn read_data_keys<'a>(
-    rt: &LibcRuntime,
-    words: &[DataKeyWord<'a>],
-) -> Result<Vec<Vec<u8>>, Problem<'a>> {
-    let mut all = Vec::new(rt.alloc());
-    for word in words {
-        let bytes = read_data_key(rt, word.file)?;
-        if all.push(bytes).is_err() {
-            return Err(Problem::Memory);
-        }
-    }
-    Ok(all)
-}
-
-fn read_data_key<'a>(rt: &LibcRuntime, path: &'a str) -> Result<Vec<u8>, Problem<'a>> {
-    match read_whole(rt, path, MAX_HEADER as u32) {
-        Ok(Some(bytes)) => Ok(bytes),
-        Ok(None) => Err(Problem::HeaderTooLong),
-        Err(error) => Err(Problem::File(Action::Read, path, error)),
-    }
-}
-
-fn pairs_of<'a>(
-    rt: &LibcRuntime,
-    context: &[NamedValue<'a>],
-) -> Result<Vec<Pair<'a, 'a>>, Problem<'a>> {
-    let mut all = Vec::new(rt.alloc());
-    for one in context {
-        let pair = Pair {
-            name: one.name.as_bytes(),
-            value: one.value.as_bytes(),
-        };
-        if all.push(pair).is_err() {
-            return Err(Problem::Memory);
-        }
-    }
-    Ok(all)
-}
-
-fn encrypted_keys<'a, 'c>(
-    rt: &LibcRuntime,
-    words: &[DataKeyWord<'a>],
-    ciphertexts: &'c [Vec<u8>],
-) -> Result<Vec<EncryptedDataKey<'a, 'a, 'c>>, Problem<'a>> {
-    let mut all = Vec::new(rt.alloc());
-    for i in 0..words.len().min(ciphertexts.len()) {
-        let word = words[i];
-        let one = EncryptedDataKey {
-            provider_id: word.provider_id.as_bytes(),
-            provider_info: word.provider_info.as_bytes(),
-            ciphertext: ciphertexts[i].as_slice(),
-        };
-        if all.push(one).is_err() {
-            return Err(Problem::Memory);
-        }
-    }
-    Ok(all)
-}
-
-fn message_id<'a>(rt: &LibcRuntime, given: Option<[u8; 32]>) -> Result<[u8; 32], Problem<'a>> {
-    if let Some(id) = given {
-        return Ok(id);
-    }
-    match random_32(rt) {
-        Ok(id) => Ok(id),
-        Err(error) => Err(Problem::File(Action::Read, "/dev/urandom", error)),
-    }
-}
-
+// An existing file is replaced only when asked; this is also seen to when OUTPUT takes its place.
 fn check_output<'a>(rt: &LibcRuntime, command: SealCommand<'a>) -> Result<(), Problem<'a>> {
     match fs::exists(rt, command.output) {
         Ok(found) => {
@@ -227,28 +142,21 @@ fn check_output<'a>(rt: &LibcRuntime, command: SealCommand<'a>) -> Result<(), Pr
     }
 }
 
-fn text_len<'a>(rt: &LibcRuntime, path: &'a str) -> Result<u64, Problem<'a>> {
+// A text that is too long is refused before anything is written; this is also seen to as it is read.
+fn check_input<'a>(rt: &LibcRuntime, path: &'a str) -> Result<(), Problem<'a>> {
     match file_len(rt, path) {
         Ok(Some(len)) => {
             if len > MAX_TEXT {
                 return Err(Problem::TextTooLong(path));
             }
-            Ok(len)
+            Ok(())
         }
         Ok(None) => Err(Problem::NoFile(path)),
         Err(error) => Err(Problem::File(Action::Read, path, error)),
     }
 }
 
-fn report<'a>(rt: &LibcRuntime, request: HeaderRequest, text: u64) -> Result<(), Problem<'a>> {
-    let frame_length = request.frame_length;
-    // Names rise and there is a data key, so a header that is refused is too long.
-    let Ok(checked) = check_header(request) else {
-        return Err(Problem::HeaderTooLong);
-    };
-    let Some(len) = message_len(checked.header_len, text, frame_length) else {
-        return Err(Problem::HeaderTooLong);
-    };
+fn report<'a>(rt: &LibcRuntime, len: u64) -> Result<(), Problem<'a>> {
     match println!(rt, "a message of {len} bytes") {
         Ok(()) => Ok(()),
         Err(error) => Err(Problem::File(Action::Write, "standard output", error)),

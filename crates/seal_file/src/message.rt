@@ -1,0 +1,274 @@
+// The message of a file, written frame by frame into a new file that takes its place when it is whole.
+ghost use Prim.Native.Nat.{_≤_};
+ghost use lib.ListN.{length};
+ghost use Rattle.std.specs.Results.{Cases};
+use commands::limits::MAX_TEXT;
+use commands::problem::Action;
+use commands::problem::Problem;
+use commands::seal::SealCommand;
+use files::new_file::NewFile;
+use files::read::read_full;
+use header::HeaderRequest;
+use octets::clear;
+use sealing::Sealer;
+use std::fs::File;
+use std::io;
+
+// The largest header with its tag, the largest text of a frame with a byte after it, and the largest frame.
+const START_ROOM: usize = 16400;
+
+const TEXT_ROOM: usize = 16385;
+
+const FRAME_ROOM: usize = 16424;
+
+// What a regular and a final frame have beside their text.
+const REGULAR_BESIDE: usize = 32;
+
+const FINAL_BESIDE: usize = 40;
+
+// Seals INPUT into OUTPUT, and answers how long the message is. Where anything fails, OUTPUT is as it was.
+pub fn seal_file<'a>(
+    rt: &LibcRuntime,
+    command: SealCommand<'a>,
+    key: &[u8; 32],
+    header: HeaderRequest,
+) -> Result<u64, Problem<'a>> {
+    let mut source = match File::open(rt, command.input) {
+        Ok(source) => source,
+        Err(error) => return Err(Problem::File(Action::Read, command.input, error)),
+    };
+    let mut target = match NewFile::create(rt, command.output) {
+        Ok(target) => target,
+        Err(error) => return Err(Problem::File(Action::Write, command.output, error)),
+    };
+    match write_message(&mut source, &mut target, command, key, header) {
+        Ok(len) => match target.finish(rt, command.output, command.force) {
+            Ok(()) => Ok(len),
+            Err(error) => Err(not_placed(command.output, error)),
+        },
+        Err(problem) => {
+            target.discard(rt);
+            Err(problem)
+        }
+    }
+}
+
+fn not_placed<'a>(path: &'a str, error: io::Error) -> Problem<'a> {
+    if error.kind() == io::ErrorKind::AlreadyExists {
+        Problem::Exists(path)
+    } else {
+        Problem::File(Action::Write, path, error)
+    }
+}
+
+fn put<'a>(target: &mut NewFile, bytes: &[u8], path: &'a str) -> Result<(), Problem<'a>> {
+    match target.write(bytes) {
+        Ok(()) => Ok(()),
+        Err(error) => Err(Problem::File(Action::Write, path, error)),
+    }
+}
+
+// Header and tag, and then the frames.
+fn write_message<'a>(
+    source: &mut File,
+    target: &mut NewFile,
+    command: SealCommand<'a>,
+    key: &[u8; 32],
+    header: HeaderRequest,
+) -> Result<u64, Problem<'a>> {
+    let mut start = [0; START_ROOM];
+    // The key and the id have 32 bytes, names rise and there is a data key, so a header that is refused is too long.
+    let begun = match Sealer::begin(key, header, &mut start) {
+        Ok(begun) => begun,
+        Err(_) => return Err(Problem::HeaderTooLong),
+    };
+    let (mut sealer, len) = begun;
+    if len > START_ROOM {
+        return Err(Problem::HeaderTooLong);
+    }
+    put(target, &start[0..len], command.output)?;
+    let more = write_text(source, target, command, &mut sealer)?;
+    Ok((len as u64).saturating_add(more))
+}
+
+fn write_text<'a>(
+    source: &mut File,
+    target: &mut NewFile,
+    command: SealCommand<'a>,
+    sealer: &mut Sealer,
+) -> Result<u64, Problem<'a>> {
+    let mut room = [0; TEXT_ROOM];
+    let size = command.frame_length as usize + 1;
+    if size > TEXT_ROOM {
+        return Err(Problem::FrameLength);
+    }
+    write_cleared(source, target, command, sealer, &mut room[0..size])
+}
+
+// The text that went by is cleared.
+fn write_cleared<'a>(
+    source: &mut File,
+    target: &mut NewFile,
+    command: SealCommand<'a>,
+    sealer: &mut Sealer,
+    text: &mut [u8],
+) -> Result<u64, Problem<'a>> {
+    let written = write_frames(source, target, command, sealer, text);
+    clear(text);
+    written
+}
+
+// One frame a turn, until the final one; and how long the frames are.
+fn write_frames<'a>(
+    source: &mut File,
+    target: &mut NewFile,
+    command: SealCommand<'a>,
+    sealer: &mut Sealer,
+    text: &mut [u8],
+) -> Result<u64, Problem<'a>> {
+    let mut held = 0;
+    let mut left = MAX_TEXT;
+    let mut written = 0u64;
+    for _ in 0..MAX_TEXT {
+        match next_frame(source, target, command, sealer, text, held) {
+            Ok(Turn::Final(n)) => {
+                if n > left {
+                    return Err(Problem::TextTooLong(command.input));
+                }
+                return Ok(
+                    written
+                        .saturating_add(n)
+                        .saturating_add(FINAL_BESIDE as u64),
+                );
+            }
+            Ok(Turn::Regular(n)) => {
+                if n > left {
+                    return Err(Problem::TextTooLong(command.input));
+                }
+                left -= n;
+                written = written
+                    .saturating_add(n)
+                    .saturating_add(REGULAR_BESIDE as u64);
+                held = 1;
+            }
+            Err(problem) => return Err(problem),
+        }
+    }
+    Err(Problem::TextTooLong(command.input))
+}
+
+// What a turn sealed, and how much text it took.
+#[derive(Clone, Copy)]
+pub enum Turn {
+    Regular(u64),
+    Final(u64),
+}
+
+// The lent bytes are those of a frame and one more, which tells whether text is left; that one is held for the next turn.
+fn next_frame<'a>(
+    source: &mut File,
+    target: &mut NewFile,
+    command: SealCommand<'a>,
+    sealer: &mut Sealer,
+    text: &mut [u8],
+    held: usize,
+) -> Result<Turn, Problem<'a>> {
+    let have = match fill(source, text, held, command.input) {
+        Ok(have) => have,
+        Err(problem) => return Err(problem),
+    };
+    if have > TEXT_ROOM {
+        return Err(Problem::FrameLength);
+    }
+    if have < text.len() || have == 0 {
+        put_final(target, sealer, &text[0..have], command.output)?;
+        return Ok(Turn::Final(have as u64));
+    }
+    let last = have - 1;
+    put_regular(target, sealer, &text[0..last], command.output)?;
+    text[0] = text[last];
+    Ok(Turn::Regular(last as u64))
+}
+
+// Reads on behind the bytes that are held already, and answers how many there are now.
+fn fill<'a>(
+    source: &mut File,
+    text: &mut [u8],
+    held: usize,
+    path: &'a str,
+) -> Result<usize, Problem<'a>>
+    ensures { λ r. ⌜ Cases r (λ n. n ≤ length (now (text .exit))) (λ _. Unit {0}) ⌝ }
+{
+    if held > text.len() {
+        return Ok(text.len());
+    }
+    match read_full(source, &mut text[held..]) {
+        Ok(n) => Ok(held + n),
+        Err(error) => Err(Problem::File(Action::Read, path, error)),
+    }
+}
+
+fn put_regular<'a>(
+    target: &mut NewFile,
+    sealer: &mut Sealer,
+    text: &[u8],
+    path: &'a str,
+) -> Result<(), Problem<'a>> {
+    let mut room = [0; FRAME_ROOM];
+    if text.len() > FRAME_ROOM - REGULAR_BESIDE {
+        return Err(Problem::FrameLength);
+    }
+    regular_into(
+        target,
+        sealer,
+        text,
+        &mut room[0..text.len() + REGULAR_BESIDE],
+        path,
+    )
+}
+
+// A text of at most 64 MiB in frames of this length is never refused.
+fn regular_into<'a>(
+    target: &mut NewFile,
+    sealer: &mut Sealer,
+    text: &[u8],
+    out: &mut [u8],
+    path: &'a str,
+) -> Result<(), Problem<'a>> {
+    match sealer.seal_regular(text, out) {
+        Ok(()) => put(target, out, path),
+        Err(_) => Err(Problem::FrameLength),
+    }
+}
+
+fn put_final<'a>(
+    target: &mut NewFile,
+    sealer: &mut Sealer,
+    text: &[u8],
+    path: &'a str,
+) -> Result<(), Problem<'a>> {
+    let mut room = [0; FRAME_ROOM];
+    if text.len() > FRAME_ROOM - FINAL_BESIDE {
+        return Err(Problem::FrameLength);
+    }
+    final_into(
+        target,
+        sealer,
+        text,
+        &mut room[0..text.len() + FINAL_BESIDE],
+        path,
+    )
+}
+
+fn final_into<'a>(
+    target: &mut NewFile,
+    sealer: &mut Sealer,
+    text: &[u8],
+    out: &mut [u8],
+    path: &'a str,
+) -> Result<(), Problem<'a>> {
+    match sealer.seal_final(text, out) {
+        Ok(()) => put(target, out, path),
+        Err(_) => Err(Problem::FrameLength),
+    }
+}
