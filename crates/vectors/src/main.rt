@@ -18,6 +18,8 @@ enum Suite {
     Gcm,
     Header,
     Open,
+    Seal,
+    Length,
 }
 
 impl Suite {
@@ -30,6 +32,8 @@ impl Suite {
             Suite::Gcm => "gcm.txt",
             Suite::Header => "header.txt",
             Suite::Open => "open.txt",
+            Suite::Seal => "seal.txt",
+            Suite::Length => "length.txt",
         }
     }
 
@@ -43,6 +47,8 @@ impl Suite {
             Suite::Gcm => ciphers::gcm_case(heap, line),
             Suite::Header => messages::header_case(heap, line),
             Suite::Open => messages::open_case(heap, line),
+            Suite::Seal => messages::seal_case(heap, line),
+            Suite::Length => messages::length_case(heap, line),
         }
     }
 }
@@ -74,7 +80,9 @@ fn all(rt: &LibcRuntime) -> Result<(), AnyError> {
     run(rt, Suite::Aes)?;
     run(rt, Suite::Gcm)?;
     run(rt, Suite::Header)?;
-    run(rt, Suite::Open)
+    run(rt, Suite::Open)?;
+    run(rt, Suite::Seal)?;
+    run(rt, Suite::Length)
 }
 
 fn main(rt: LibcRuntime) -> Result<(), AnyError> {
