@@ -1,4 +1,5 @@
 // Bytes from files.
+ghost use mathlib.Core.Path.{_≡_};
 ghost use Prim.Native.Nat.{_≤_, _<_};
 ghost use lib.ListN.{length};
 ghost use Rattle.std.specs.Of.Vec.{vec-len};
@@ -96,4 +97,12 @@ pub fn random_32(rt: &LibcRuntime) -> io::Result<[u8; 32]> {
     let mut source = File::open(rt, "/dev/urandom")?;
     source.read_exact(&mut bytes)?;
     Ok(bytes)
+}
+
+// Overwrites bytes with zeros. The second time the system does, which no compiler leaves out.
+pub fn wipe(rt: &LibcRuntime, bytes: &mut [u8])
+    ensures len { λ _. ⌜ length (now (bytes .exit)) ≡ length (now (bytes .entry)) ⌝ }
+{
+    bytes.fill(0);
+    let _ = read_start(rt, "/dev/zero", bytes);
 }

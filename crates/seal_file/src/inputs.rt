@@ -8,9 +8,9 @@ use commands::problem::Problem;
 use files::read::random_32;
 use files::read::read_start;
 use files::read::read_whole;
+use files::read::wipe;
 use header::EncryptedDataKey;
 use header::Pair;
-use octets::clear;
 
 // The key in a file, into lent bytes; what was read is cleared.
 pub fn read_key<'a>(
@@ -23,11 +23,12 @@ pub fn read_key<'a>(
         Ok(n) => Ok(parse_key(&bytes[0..n])),
         Err(error) => Err(Problem::File(Action::Read, path, error)),
     };
-    clear(&mut bytes);
-    let Some(found) = parsed? else {
+    wipe(rt, &mut bytes);
+    let Some(mut found) = parsed? else {
         return Err(Problem::NoKey(path));
     };
     key.copy_from_slice(&found);
+    wipe(rt, &mut found);
     Ok(())
 }
 

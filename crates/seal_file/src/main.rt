@@ -17,6 +17,7 @@ use commands::problem::ProblemFromScanError;
 use commands::seal::SealCommand;
 use commands::seal::seal_command;
 use files::read::file_len;
+use files::read::wipe;
 use header::HeaderRequest;
 use inputs::encrypted_keys;
 use inputs::message_id;
@@ -24,7 +25,6 @@ use inputs::pairs_of;
 use inputs::read_data_keys;
 use inputs::read_key;
 use message::seal_file;
-use octets::clear;
 use std::env;
 use std::fs;
 use std::io;
@@ -92,7 +92,7 @@ fn run<'a>(rt: &LibcRuntime, words: &'a [String]) -> Result<(), Problem<'a>> {
     let command = seal_command(rt.alloc(), given.as_slice())?;
     let mut key = [0; 32];
     let result = seal_with(rt, command, given.as_slice(), &mut key);
-    clear(&mut key);
+    wipe(rt, &mut key);
     result
 }
 

@@ -8,8 +8,8 @@ use commands::problem::Problem;
 use commands::seal::SealCommand;
 use files::new_file::NewFile;
 use files::read::read_full;
+use files::read::wipe;
 use header::HeaderRequest;
-use octets::clear;
 use sealing::Sealer;
 use std::fs::File;
 use std::io;
@@ -41,7 +41,7 @@ pub fn seal_file<'a>(
         Ok(target) => target,
         Err(error) => return Err(Problem::File(Action::Write, command.output, error)),
     };
-    match write_message(&mut source, &mut target, command, key, header) {
+    match write_message(rt, &mut source, &mut target, command, key, header) {
         Ok(len) => match target.finish(rt, command.output, command.force) {
             Ok(()) => Ok(len),
             Err(error) => Err(not_placed(command.output, error)),
@@ -70,6 +70,7 @@ fn put<'a>(target: &mut NewFile, bytes: &[u8], path: &'a str) -> Result<(), Prob
 
 // Header and tag, and then the frames.
 fn write_message<'a>(
+    rt: &LibcRuntime,
     source: &mut File,
     target: &mut NewFile,
     command: SealCommand<'a>,
@@ -87,11 +88,12 @@ fn write_message<'a>(
         return Err(Problem::HeaderTooLong);
     }
     put(target, &start[0..len], command.output)?;
-    let more = write_text(source, target, command, &mut sealer)?;
+    let more = write_text(rt, source, target, command, &mut sealer)?;
     Ok((len as u64).saturating_add(more))
 }
 
 fn write_text<'a>(
+    rt: &LibcRuntime,
     source: &mut File,
     target: &mut NewFile,
     command: SealCommand<'a>,
@@ -102,11 +104,12 @@ fn write_text<'a>(
     if size > TEXT_ROOM {
         return Err(Problem::FrameLength);
     }
-    write_cleared(source, target, command, sealer, &mut room[0..size])
+    write_cleared(rt, source, target, command, sealer, &mut room[0..size])
 }
 
-// The text that went by is cleared.
+// The text that went by is wiped.
 fn write_cleared<'a>(
+    rt: &LibcRuntime,
     source: &mut File,
     target: &mut NewFile,
     command: SealCommand<'a>,
@@ -114,7 +117,7 @@ fn write_cleared<'a>(
     text: &mut [u8],
 ) -> Result<u64, Problem<'a>> {
     let written = write_frames(source, target, command, sealer, text);
-    clear(text);
+    wipe(rt, text);
     written
 }
 
