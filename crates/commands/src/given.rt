@@ -53,3 +53,13 @@ pub fn is_given<'a>(heap: Global, given: &[Given<'a>], kind: Kind) -> Result<boo
         None => Ok(false),
     }
 }
+
+// The text of --key, which has to be given.
+pub fn key_of<'a>(heap: Global, given: &[Given<'a>]) -> Result<&'a str, Problem<'a>>
+    ensures value { λ r. ⌜ made r (λ k. texts Kind.Key (map item (now (given .entry))) ≡ k .now ∷ []) ⌝ }
+{
+    match sole(heap, given, Kind::Key)? {
+        Some(key) => Ok(key),
+        None => Err(Problem::Missing(Kind::Key)),
+    }
+}

@@ -4,5 +4,6 @@ pub mod context;
 pub mod data_keys;
 pub mod given;
 pub mod limits;
+pub mod open;
 pub mod problem;
 pub mod seal;

@@ -1,11 +1,12 @@
 // The command to seal a file.
 ghost use mathlib.Core.Path.{_≡_};
-ghost use mathlib.Core.List.{map, [], _∷_};
+ghost use mathlib.Core.List.{map};
 ghost use Rattle.std.specs.declared.option.Option.the-variants.{Some};
 ghost use Rattle.std.specs.Vec.{made};
 ghost use Rattle.cli.specs.Scan.{texts, item};
 ghost use Rattle.commands.specs.Seal.{frame-length-of, id-of, SealGiven};
 use crate::given::is_given;
+use crate::given::key_of;
 use crate::given::operands;
 use crate::given::sole;
 use crate::limits::DEFAULT_FRAME_LENGTH;
@@ -26,16 +27,6 @@ pub struct SealCommand<'a> {
     pub force: bool,
     pub input: &'a str,
     pub output: &'a str,
-}
-
-// The text of --key, which has to be given.
-fn key_of<'a>(heap: Global, given: &[Given<'a>]) -> Result<&'a str, Problem<'a>>
-    ensures { λ r. ⌜ made r (λ k. texts Kind.Key (map item (now (given .entry))) ≡ k .now ∷ []) ⌝ }
-{
-    match sole(heap, given, Kind::Key)? {
-        Some(key) => Ok(key),
-        None => Err(Problem::Missing(Kind::Key)),
-    }
 }
 
 fn frame_length_of<'a>(heap: Global, given: &[Given<'a>]) -> Result<u32, Problem<'a>>
