@@ -17,6 +17,7 @@ pub enum Problem<'a> {
     Missing(Kind),
     Repeated(Kind),
     Operands,
+    HeaderAlone,
     NoPair(&'a str),
     NameTwice(&'a str),
     NoDataKey(&'a str),
@@ -87,6 +88,7 @@ pub impl fmt::Display for Problem<'_> as ProblemDisplay {
                 write!(f, "{option} is given more than once")
             }
             Problem::Operands => f.write_str("one INPUT and one OUTPUT are needed"),
+            Problem::HeaderAlone => f.write_str("--header takes one INPUT and nothing else"),
             Problem::NoPair(word) => write!(f, "--context {word:?} is not NAME=VALUE"),
             Problem::NameTwice(name) => write!(f, "--context gives the name {name:?} twice"),
             Problem::NoDataKey(word) => write!(
