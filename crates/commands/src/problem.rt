@@ -29,6 +29,13 @@ pub enum Problem<'a> {
     Exists(&'a str),
     NoFile(&'a str),
     File(Action, &'a str, io::Error),
+    // a message that isn't opened: the refusal's number, its frame or 0, and its meaning
+    Refused(u8, u32, &'a str),
+    NoSuchPair(&'a str, &'a str),
+    LongHeader(&'a str),
+    LongFrames(&'a str, u32),
+    LongMessage(&'a str),
+    Changed(&'a str),
     NoText,
     Memory,
 }
@@ -108,6 +115,30 @@ pub impl fmt::Display for Problem<'_> as ProblemDisplay {
             Problem::Exists(path) => write!(f, "{path:?} exists; --force replaces it"),
             Problem::NoFile(path) => write!(f, "{path:?} is not a regular file"),
             Problem::File(action, path, error) => write!(f, "cannot {action} {path:?}: {error}"),
+            Problem::Refused(number, frame, why) => {
+                if frame == 0 {
+                    write!(f, "refused: {number}: {why}")
+                } else {
+                    write!(f, "refused: {number}, frame {frame}: {why}")
+                }
+            }
+            Problem::NoSuchPair(name, value) => write!(
+                f,
+                "the context does not hold the value {value:?} under the name {name:?}"
+            ),
+            Problem::LongHeader(path) => write!(
+                f,
+                "{path:?} has a header of more than 16384 bytes"
+            ),
+            Problem::LongFrames(path, n) => write!(
+                f,
+                "{path:?} has frames of {n} bytes; the most is 16384"
+            ),
+            Problem::LongMessage(path) => write!(
+                f,
+                "the text in {path:?} has more than 67108864 bytes"
+            ),
+            Problem::Changed(path) => write!(f, "{path:?} changed while it was read"),
             Problem::NoText => f.write_str("a word of the command line is not UTF-8"),
             Problem::Memory => f.write_str("out of memory"),
         }

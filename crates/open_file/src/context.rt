@@ -1,7 +1,6 @@
 // The encryption context of a message: pairs that have to be there, and all of them printed.
 use crate::escaped::EscapedPair;
 use crate::escaped::EscapedPairDisplay;
-use crate::failure::Failure;
 use cli::context::Pair as NamedValue;
 use commands::problem::Action;
 use commands::problem::Problem;
@@ -11,14 +10,14 @@ use header_read::PairsIterator;
 use octets::equal;
 
 // Refuses a context that doesn't hold each of the pairs.
-pub fn check_context<'a>(context: Context, wanted: &[NamedValue<'a>]) -> Result<(), Failure<'a>> {
+pub fn check_context<'a>(context: Context, wanted: &[NamedValue<'a>]) -> Result<(), Problem<'a>> {
     for one in wanted {
         let pair = Pair {
             name: one.name.as_bytes(),
             value: one.value.as_bytes(),
         };
         if !holds(context, pair) {
-            return Err(Failure::NoSuchPair(pair));
+            return Err(Problem::NoSuchPair(one.name, one.value));
         }
     }
     Ok(())

@@ -1,7 +1,5 @@
 // A message gone through, from its file to where its text goes.
-use crate::failure::Failure;
-use crate::failure::FailureFromOpenRefusal;
-use crate::failure::FailureFromProblem;
+use crate::refusal::refused;
 use crate::source::Source;
 use crate::target::Target;
 use commands::limits::MAX_FRAME_LENGTH;
@@ -10,9 +8,9 @@ use commands::open::OpenCommand;
 use commands::problem::Action;
 use commands::problem::Problem;
 use files::read::read_full;
-use header::suite::START;
+use header_front::HeaderFront;
+use header_front::header_front;
 use octets::clear;
-use octets::equal;
 use opening::FrameText;
 use opening::OpenRefusal;
 use opening::Opener;
@@ -43,46 +41,44 @@ pub fn pass<'a>(
     key: &[u8; 32],
     start: &mut [u8; START_ROOM],
     target: &mut Target,
-) -> Result<Passed, Failure<'a>> {
+) -> Result<Passed, Problem<'a>> {
     let mut file = match File::open(rt, command.input) {
         Ok(file) => file,
-        Err(error) => return Err(Failure::Problem(Problem::File(
-            Action::Read,
-            command.input,
-            error,
-        ))),
+        Err(error) => return Err(Problem::File(Action::Read, command.input, error)),
     };
     let len = match read_full(&mut file, start) {
         Ok(len) => len,
-        Err(error) => return Err(Failure::Problem(Problem::File(
-            Action::Read,
-            command.input,
-            error,
-        ))),
+        Err(error) => return Err(Problem::File(Action::Read, command.input, error)),
     };
-    let mut opener = begin(key, &start[0..len], command.input)?;
+    let mut opener = match Opener::new(key, &start[0..len]) {
+        Ok(opener) => opener,
+        Err(refusal) => return Err(not_begun(refusal, &start[0..len], command.input)),
+    };
     let header_len = opener.header_len().min(len);
     let frames = pass_frames(file, &start[0..header_len], &mut opener, command, target);
     let end = opener.finish();
     let digest = frames?;
-    end?;
-    Ok(Passed { header_len, digest })
+    match end {
+        Ok(()) => Ok(Passed { header_len, digest }),
+        Err(refusal) => Err(refused(refusal)),
+    }
 }
 
-// Bytes that are all of a file may be no header; the first bytes of a longer one may be the start of a header that is too long.
-pub fn no_header<'a>(bytes: &[u8], path: &'a str) -> Failure<'a> {
-    if bytes.len() == START_ROOM && equal(&bytes[0..3], &START) {
-        return Failure::HeaderTooLong(path);
+fn not_begun<'a>(refusal: OpenRefusal, start: &[u8], path: &'a str) -> Problem<'a> {
+    if let OpenRefusal::NoHeader = refusal {
+        return no_header(start, path);
     }
-    Failure::Refused(OpenRefusal::NoHeader)
+    refused(refusal)
 }
 
-fn begin<'a>(key: &[u8; 32], bytes: &[u8], path: &'a str) -> Result<Opener, Failure<'a>> {
-    match Opener::new(key, bytes) {
-        Ok(opener) => Ok(opener),
-        Err(OpenRefusal::NoHeader) => Err(no_header(bytes, path)),
-        Err(refusal) => Err(Failure::Refused(refusal)),
+// Where a file's first bytes are no header, its header may only be longer than they are.
+pub fn no_header<'a>(start: &[u8], path: &'a str) -> Problem<'a> {
+    if start.len() == START_ROOM {
+        if let HeaderFront::Short = header_front(start) {
+            return Problem::LongHeader(path);
+        }
     }
+    refused(OpenRefusal::NoHeader)
 }
 
 fn pass_frames<'a>(
@@ -91,18 +87,14 @@ fn pass_frames<'a>(
     opener: &mut Opener,
     command: OpenCommand<'a>,
     target: &mut Target,
-) -> Result<[u8; 64], Failure<'a>> {
+) -> Result<[u8; 64], Problem<'a>> {
     let frame_length = opener.frame_length();
     if frame_length > MAX_FRAME_LENGTH {
-        return Err(Failure::FramesTooLong(command.input, frame_length));
+        return Err(Problem::LongFrames(command.input, frame_length));
     }
     let mut source = match Source::after(file, header) {
         Ok(source) => source,
-        Err(error) => return Err(Failure::Problem(Problem::File(
-            Action::Read,
-            command.input,
-            error,
-        ))),
+        Err(error) => return Err(Problem::File(Action::Read, command.input, error)),
     };
     let mut bytes = [0; FRAME_ROOM];
     let mut text = [0; TEXT_ROOM];
@@ -120,7 +112,7 @@ fn pass_frames<'a>(
     Ok(source.digest())
 }
 
-// One frame a turn; the lent bytes are as many as the longest frame has, so that a frame is there whole or the file ends.
+// One frame a turn, until the end.
 fn open_frames<'a>(
     source: &mut Source,
     opener: &mut Opener,
@@ -128,26 +120,52 @@ fn open_frames<'a>(
     text: &mut [u8],
     command: OpenCommand<'a>,
     target: &mut Target,
-) -> Result<(), Failure<'a>> {
-    let mut held = 0;
+) -> Result<(), Problem<'a>> {
     let mut left = MAX_TEXT;
     for _ in 0..MAX_TEXT + 2 {
-        let have = source.fill(bytes, held, command.input)?;
-        let at_end = have < bytes.len();
-        let frame = match opener.next(&bytes[0..have], at_end, text)? {
-            Step::End => return Ok(()),
-            Step::NeedMore => FrameText { len: 0, taken: 0 },
-            Step::Regular(frame) => frame,
-            Step::Final(frame) => frame,
-        };
-        if frame.len as u64 > left {
-            break;
+        match open_next(source, opener, bytes, text, command, target) {
+            Ok(Some(len)) => {
+                if len as u64 > left {
+                    return Err(Problem::LongMessage(command.input));
+                }
+                left -= len as u64;
+            }
+            Ok(None) => return Ok(()),
+            Err(problem) => return Err(problem),
         }
-        left -= frame.len as u64;
-        source.take(&bytes[0..frame.taken]);
-        target.put(&text[0..frame.len], command.output)?;
-        bytes.copy_within(frame.taken..have, 0);
-        held = have - frame.taken;
     }
-    Err(Failure::TextTooLong(command.input))
+    Err(Problem::LongMessage(command.input))
+}
+
+// The next frame's text handed on, and its length; None at the end. The lent bytes are as many as the longest frame has, so that a
+// frame stands there whole or the file ends.
+fn open_next<'a>(
+    source: &mut Source,
+    opener: &mut Opener,
+    bytes: &mut [u8],
+    text: &mut [u8],
+    command: OpenCommand<'a>,
+    target: &mut Target,
+) -> Result<Option<usize>, Problem<'a>> {
+    let have = match source.fill(bytes, command.input) {
+        Ok(have) => have,
+        Err(problem) => return Err(problem),
+    };
+    let at_end = have < bytes.len();
+    let frame = match opener.next(&bytes[0..have], at_end, text) {
+        Ok(Step::Regular(frame)) => frame,
+        Ok(Step::Final(frame)) => frame,
+        Ok(Step::NeedMore) => FrameText { len: 0, taken: 0 },
+        Ok(Step::End) => return Ok(None),
+        Err(refusal) => return Err(refused(refusal)),
+    };
+    let len = frame.len;
+    if len > text.len() {
+        return Err(refused(OpenRefusal::OutTooShort));
+    }
+    source.take(bytes, frame.taken, have);
+    match target.put(&text[0..len], command.output) {
+        Ok(()) => Ok(Some(len)),
+        Err(problem) => Err(problem),
+    }
 }

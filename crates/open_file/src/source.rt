@@ -16,6 +16,8 @@ use std::io::SeekFrom;
 pub struct Source {
     file: BufReader<File>,
     hasher: Hasher,
+    // bytes that were read and not taken yet
+    held: usize,
 }
 
 impl Source {
@@ -27,18 +29,15 @@ impl Source {
         Ok(Source {
             file: BufReader::new(file),
             hasher,
+            held: 0,
         })
     }
 
     // Reads on behind the bytes that are held already, and answers how many there are now.
-    pub fn fill<'a>(
-        &mut self,
-        bytes: &mut [u8],
-        held: usize,
-        path: &'a str,
-    ) -> Result<usize, Problem<'a>>
+    pub fn fill<'a>(&mut self, bytes: &mut [u8], path: &'a str) -> Result<usize, Problem<'a>>
         ensures { λ r. ⌜ Cases r (λ n. n ≤ length (now (bytes .exit))) (λ _. Unit {0}) ⌝ }
     {
+        let held = self.held;
         if held > bytes.len() {
             return Ok(bytes.len());
         }
@@ -48,13 +47,22 @@ impl Source {
         }
     }
 
-    pub fn take(&mut self, bytes: &[u8]) {
-        self.hasher.update(bytes);
+    // Takes some of the bytes that are there, and moves the others to the front.
+    pub fn take(&mut self, bytes: &mut [u8], taken: usize, have: usize) {
+        if taken <= have && have <= bytes.len() {
+            self.hasher.update(&bytes[0..taken]);
+            bytes.copy_within(taken..have, 0);
+            self.held = have - taken;
+        }
     }
 
     // The hash of all that was taken.
     pub fn digest(self) -> [u8; 64] {
-        let Source { file: _file, hasher } = self;
+        let Source {
+            file: _file,
+            hasher,
+            held: _held,
+        } = self;
         hasher.finish()
     }
 }
