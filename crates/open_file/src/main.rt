@@ -22,7 +22,7 @@ use commands::problem::Problem;
 use commands::problem::ProblemDisplay;
 use commands::problem::ProblemFromScanError;
 use files::read::file_len;
-use octets::clear;
+use files::read::wipe;
 use open::open_file;
 use programs::check_output;
 use programs::read_key;
@@ -84,11 +84,11 @@ fn run<'a>(rt: &LibcRuntime, words: &'a [String]) -> Result<(), Problem<'a>> {
     let command = open_command(rt.alloc(), given.as_slice())?;
     let mut key = [0; 32];
     let result = open_with(rt, command, given.as_slice(), &mut key);
-    clear(&mut key);
+    wipe(rt, &mut key);
     result
 }
 
-// Reads the key that the command names, and opens; the key goes into lent bytes, which the caller clears.
+// Reads the key that the command names, and opens; the key goes into lent bytes, which the caller wipes.
 fn open_with<'a>(
     rt: &LibcRuntime,
     command: OpenCommand<'a>,

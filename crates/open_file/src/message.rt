@@ -8,9 +8,9 @@ use commands::open::OpenCommand;
 use commands::problem::Action;
 use commands::problem::Problem;
 use files::read::read_full;
+use files::read::wipe;
 use header_front::HeaderFront;
 use header_front::header_front;
-use octets::clear;
 use opening::FrameText;
 use opening::OpenRefusal;
 use opening::Opener;
@@ -55,7 +55,14 @@ pub fn pass<'a>(
         Err(refusal) => return Err(not_begun(refusal, &start[0..len], command.input)),
     };
     let header_len = opener.header_len().min(len);
-    let frames = pass_frames(file, &start[0..header_len], &mut opener, command, target);
+    let frames = pass_frames(
+        rt,
+        file,
+        &start[0..header_len],
+        &mut opener,
+        command,
+        target,
+    );
     let end = opener.finish();
     let digest = frames?;
     match end {
@@ -82,6 +89,7 @@ pub fn no_header<'a>(start: &[u8], path: &'a str) -> Problem<'a> {
 }
 
 fn pass_frames<'a>(
+    rt: &LibcRuntime,
     file: File,
     header: &[u8],
     opener: &mut Opener,
@@ -107,7 +115,7 @@ fn pass_frames<'a>(
         command,
         target,
     );
-    clear(&mut text);
+    wipe(rt, &mut text);
     done?;
     Ok(source.digest())
 }

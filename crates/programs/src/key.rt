@@ -3,9 +3,9 @@ use cli::key::parse_key;
 use commands::problem::Action;
 use commands::problem::Problem;
 use files::read::read_start;
-use octets::clear;
+use files::read::wipe;
 
-// The key in a file, into lent bytes; what was read is cleared.
+// The key in a file, into lent bytes; what was read is wiped.
 pub fn read_key<'a>(
     rt: &LibcRuntime,
     path: &'a str,
@@ -16,11 +16,11 @@ pub fn read_key<'a>(
         Ok(n) => Ok(parse_key(&bytes[0..n])),
         Err(error) => Err(Problem::File(Action::Read, path, error)),
     };
-    clear(&mut bytes);
+    wipe(rt, &mut bytes);
     let Some(mut found) = parsed? else {
         return Err(Problem::NoKey(path));
     };
     key.copy_from_slice(&found);
-    clear(&mut found);
+    wipe(rt, &mut found);
     Ok(())
 }
