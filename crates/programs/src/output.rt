@@ -2,19 +2,22 @@
 use commands::problem::Action;
 use commands::problem::Problem;
 use files::new_file::NewFile;
-use std::fs;
+use files::read::file_len;
 use std::io;
 
-// An existing file is replaced only when asked; this is also seen to when OUTPUT takes its place.
+// An existing file is replaced only when asked, and nothing but a regular file ever is: not a device, nor a folder. That nothing else
+// takes the place in between is seen to when OUTPUT does.
 pub fn check_output<'a>(rt: &LibcRuntime, path: &'a str, force: bool) -> Result<(), Problem<'a>> {
-    match fs::exists(rt, path) {
-        Ok(found) => {
-            if found && !force {
-                return Err(Problem::Exists(path));
+    match file_len(rt, path) {
+        Ok(Some(_)) if force => Ok(()),
+        Ok(None) if force => Err(Problem::NoFile(path)),
+        Ok(_) => Err(Problem::Exists(path)),
+        Err(error) => {
+            if error.kind() == io::ErrorKind::NotFound {
+                return Ok(());
             }
-            Ok(())
+            Err(Problem::File(Action::Read, path, error))
         }
-        Err(error) => Err(Problem::File(Action::Read, path, error)),
     }
 }
 
