@@ -2,20 +2,18 @@
 use mathlib.Core.Path.{_≡_, refl, sym, ap, ap₂, _∙_}
 use mathlib.Core.Bool.{Bool, true, false, cond}
 use mathlib.Core.List.{List, [], _∷_, _++_, append-assoc}
-use Prim.Native.Nat.{ℕ, suc, zero, _+_, _-_, _*_, _/_, _%_, _≤_, _<_}
+use Prim.Native.Nat.{ℕ, _+_, _-_, _/_, _%_, _<_}
 use native.Mathlib.Omega.{arith}
 use borrow.Rule.Slice.PartMut.{putMid}
 use lib.Dec.{eqb}
 use lib.ListN.{length, take, drop, length-append, length-drop}
 use lib.Seq.{length-take-le}
 use Rattle.std.proofs.shelf.Tests.{eq-eqb, cond-true}
-use Rattle.gcm.specs.Gcm.{Sealed}
 use Rattle.octets.specs.Bits.{pick}
 use Rattle.octets.specs.Bytes.{to-bytes}
 use Rattle.octets.specs.Splice.{Written}
 use Rattle.octets.proofs.Numbers.{length-to-bytes}
 use Rattle.octets.proofs.Splice.{written-then, written-all, spliced-mid}
-use Rattle.format.specs.Reading.{ReadFrame}
 use Rattle.format.specs.Request.{end-marker}
 use Rattle.format.specs.Piece.{frame-aad, regular-label, final-label}
 use Rattle.frames.specs.Cipher.{sealed, unsealed}

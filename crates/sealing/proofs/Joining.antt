@@ -12,19 +12,16 @@ use Rattle.std.specs.declared.result.Result.{Result}
 use Rattle.std.specs.declared.result.Result.the-variants.{Ok, Err}
 use Rattle.std.proofs.shelf.Tests.{and-parts, or-cases, eqb-true, leb-true, ltb-true}
 use Rattle.octets.specs.Bits.{pick}
-use Rattle.hkdf.specs.MessageKeys.{sealing-key}
 use Rattle.gcm.specs.Key.{key-of}
 use Rattle.format.specs.Request.{seal-refusal}
 use Rattle.format.specs.Message.{frames}
-use Rattle.frames.specs.Frame.{regular-frame, final-frame}
+use Rattle.frames.specs.Frame.{final-frame}
 use Rattle.header.specs.Models.{request-with}
 use Rattle.header.specs.Checked.{text-fits}
 use Rattle.header.specs.declared.request.HeaderRequest.{HeaderRequest}
 use Rattle.header.proofs.Refusals.{refused-by-text, header-passed}
-use Rattle.sealing.specs.Whole.{sealed-message, start}
-use Rattle.sealing.specs.Calls.{Begun, text-before, regular-answer, RegularSealed, final-answer, FinalSealed, Call, Calls, sealer-after, texts, frames-written, Calls-make-the-message}
+use Rattle.sealing.specs.Calls.{Begun, text-before, regular-answer, final-answer, Call, Calls, sealer-after, texts, frames-written, Calls-make-the-message}
 use Rattle.sealing.specs.declared.state.Sealer.{Sealer}
-use Rattle.sealing.specs.declared.state.FrameRefusal.{FrameRefusal}
 use Rattle.sealing.proofs.Frames.{frames-last, frames-join}
 use Rattle.sealing.proofs.Messages.{message-is, start-any-text}
 

@@ -1,29 +1,29 @@
 -- Messages in parts: the start and the frames, how long they are, and that sums of lengths don't wrap.
 use mathlib.Core.Path.{_≡_, refl, sym, ap, ap₂, subst, _∙_}
 use mathlib.Core.Bool.{true}
-use mathlib.Core.List.{List, [], _∷_, _++_, append-assoc}
+use mathlib.Core.List.{List, [], _++_, append-assoc}
 use Prim.Native.Nat.{ℕ, suc, _+_, _-_, _*_, _/_, _≤_, _<_}
 use native.Mathlib.Nat.{div-lt-iff-lt-mul, mul-le-mul-right}
 use native.Mathlib.Omega.{arith}
 use borrow.Rule.Slice.PartMut.{putMid}
 use lib.ListN.{length, take, length-append}
 use Rattle.std.proofs.shelf.Tests.{and-parts, and-from, leb-true, ltb-true, le-leb, lt-ltb, cond-true}
-use Rattle.octets.specs.Splice.{Written, spliced}
+use Rattle.octets.specs.Splice.{Written}
 use Rattle.octets.proofs.Splice.{written-then, written-all, spliced-mid, length-spliced, take-spliced-through}
 use Rattle.hkdf.specs.MessageKeys.{sealing-key, commitment}
 use Rattle.format.specs.Request as Rq
-use Rattle.format.specs.Request.{end-marker, pairs-bytes, data-keys-bytes}
-use Rattle.format.specs.Header.{context-bytes, header-bytes, header-of}
+use Rattle.format.specs.Request.{end-marker}
+use Rattle.format.specs.Header.{header-bytes, header-of}
 use Rattle.format.specs.Message.{frames}
 use Rattle.format.proofs.KeyLengths.{length-sealing-key, length-commitment}
 use Rattle.format.proofs.Lengths.{tag-long, length-frames}
 use Rattle.header.specs.Models.{request-with, pairs, data-keys}
-use Rattle.header.specs.Checked.{text-fits, header-refusal, HandsOnHeader, data-keys-length}
+use Rattle.header.specs.Checked.{text-fits, header-refusal, HandsOnHeader}
 use Rattle.header.specs.Written.{asked-bytes}
 use Rattle.header.specs.declared.request.HeaderRequest.{HeaderRequest}
 use Rattle.header.specs.declared.passed.CheckedHeader.{CheckedHeader}
 use Rattle.header.proofs.Lengths.{length-header, data-keys-told, context-short}
-use Rattle.header.proofs.Refusals.{Passed, header-passed}
+use Rattle.header.proofs.Refusals.{header-passed}
 use Rattle.frames.specs.Cipher.{header-tag}
 use Rattle.sealing.specs.Whole.{sealed-message, start, frames-length}
 

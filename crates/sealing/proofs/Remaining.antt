@@ -1,7 +1,7 @@
 -- Frames sealed in a loop: what is left to do gives the whole.
 use mathlib.Core.Path.{_≡_, refl, sym, ap, _∙_}
 use mathlib.Core.Bool.{false, _&&_}
-use mathlib.Core.List.{List, [], _∷_, _++_}
+use mathlib.Core.List.{List, _++_}
 use Prim.Native.Nat.{ℕ, suc, zero, _+_, _-_, _*_, _/_, _≤_, _<_}
 use native.Mathlib.Nat.{div-eq-sub-div, div-eq-of-lt, add-mul, lt-of-mul-lt-mul-right}
 use native.Mathlib.Omega.{arith}

@@ -1,4 +1,3 @@
-use mathlib.Core.Path.{_∙_}
 use native.Mathlib.Omega.{arith}
 use Rattle.frames.proofs.Parts.{twelve-is}
 use Rattle.frames.proofs.aad.frame_nonce.Needs as need

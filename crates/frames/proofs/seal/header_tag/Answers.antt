@@ -1,4 +1,3 @@
-use mathlib.Core.Path.{_∙_}
 use Rattle.octets.specs.Bytes.{repeat}
 use Rattle.frames.specs.Cipher.{header-tag}
 use Rattle.frames.proofs.seal.header_tag.Needs as need

@@ -1,6 +1,5 @@
-use mathlib.Core.Path.{_≡_, sym, refl, _∙_}
+use mathlib.Core.Path.{sym, refl, _∙_}
 use native.Mathlib.Omega.{arith}
-use lib.ListN.{length}
 use Rattle.std.proofs.shelf.Tests.{eq-eqb, cond-true}
 use Rattle.frames.proofs.Parts.{behind}
 use Rattle.frames.proofs.seal.seal_behind.Needs as need

@@ -3,7 +3,6 @@ use Prim.Native.Nat.{suc}
 use native.Mathlib.Omega.{arith}
 use lib.ListN.{length}
 use Rattle.hkdf.specs.MessageKeys.{sealing-key, commitment}
-use Rattle.gcm.specs.Key.{key-of}
 use Rattle.format.specs.Message.{frames}
 use Rattle.format.proofs.KeyLengths.{length-sealing-key}
 use Rattle.header.specs.Models.{request-of}
