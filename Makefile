@@ -3,10 +3,10 @@
 # make install   put the programs into $(PREFIX)/bin
 PREFIX ?= /usr/local
 
-.PHONY: demo test build install clean
+.PHONY: build demo test install clean
 
 build:
-	rt check seal_file
+	rt check seal_file open_file
 
 demo: build
 	tests/demo
@@ -17,6 +17,7 @@ test:
 install: build
 	install -d $(DESTDIR)$(PREFIX)/bin
 	install -m 755 target/bin/seal_file $(DESTDIR)$(PREFIX)/bin/strongbox-seal
+	install -m 755 target/bin/open_file $(DESTDIR)$(PREFIX)/bin/strongbox-open
 
 clean:
 	rm -rf target
