@@ -12,7 +12,8 @@ elements' words; what may be missing is `?` where it is.
   length     key id frame-length text-length context data-keys   (is N | refused N)
   header     message   (is id frame-length commitment tag length-of-rest context data-keys | none)
   open       key lent message   (is text context | refused N FRAME)
-The last four are whole messages that another implementation made, and their damaged forms.
+The last four are whole messages that another implementation made, and their damaged forms. The first of seal and of open are the
+message that docs/FORMAT.md works out, made by tests/reference.py, and the ways of damaging it that are listed there.
 """
 import hashlib
 import hmac
@@ -20,6 +21,8 @@ import json
 import os
 import random
 import sys
+
+import reference
 
 OUT = os.path.join(os.path.dirname(os.path.abspath(__file__)), "..", "crates", "vectors", "data")
 
@@ -68,6 +71,30 @@ def open_case(d):
     return out + ["is", word(e["text"])] + listed(e["context"])
 
 
+KEY_32, ID = bytes(range(32)), bytes(range(32, 64))
+CONTEXT, DATA_KEYS = [(b"on", b"p1")], [(b"x", b"y", b"z")]
+
+
+def worked(text=b"deeds!", message_id=ID):
+    return reference.seal(KEY_32, message_id, CONTEXT, DATA_KEYS, 4, text)
+
+
+def worked_seal():
+    pairs = ["1", b"on".hex(), b"p1".hex(), "1", b"x".hex(), b"y".hex(), b"z".hex()]
+    return [KEY_32.hex(), ID.hex(), "4", "189", b"deeds!".hex()] + pairs + ["is", worked().hex()]
+
+
+def worked_open():
+    m, long = worked(), worked(b"deedsdeeds")
+    turned = lambda i: m[:i] + bytes([m[i] ^ 1]) + m[i + 1:]
+    cases = [(m[:-1], 6, 2), (m + b"\0", 8, 2), (turned(127), 7, 1), (turned(0), 3, 0), (turned(3), 4, 0), (turned(63), 4, 0), (turned(46), 5, 0),
+             (turned(51), 5, 0), (turned(62), 5, 0), (turned(95), 5, 0), (m[:111] + worked(message_id=bytes(32))[111:], 7, 1),
+             (long[:147] + long[183:], 6, 2), (long[:111] + long[147:183] + long[111:147] + long[183:], 6, 1)]
+    rows = [[KEY_32.hex(), str(len(m)), m.hex(), "is", b"deeds!".hex(), "1", b"on".hex(), b"p1".hex()],
+            [KEY_32.hex(), str(len(m) - 1), m.hex(), "refused", "1", "0"], [bytes(32).hex(), str(len(m)), m.hex(), "refused", "4", "0"]]
+    return rows + [[KEY_32.hex(), str(len(b) + 5), b.hex(), "refused", str(n), str(f)] for b, n, f in cases]
+
+
 # GCM's own worked cases with 256-bit keys and nonces of 12 bytes (McGrew and Viega, test cases 13 to 16)
 KEY = "feffe9928665731c6d6a8f9467308308" * 2
 NONCE = "cafebabefacedbaddecaf888"
@@ -113,7 +140,8 @@ def main(folder):
     # a frame length is a number of 32 bits in a request, and a text's length one of 64: larger ones can't be asked for
     messages = [d for d in cases(folder, "messages") if d.get("frame", 0) < 1 << 32 and d.get("text_length", 0) < 1 << 64]
     for name, kind, case in (("seal", "seal", seal_case), ("length", "seal-length", length_case), ("header", "look", header_case), ("open", "open", open_case)):
-        write(name, [case(d) for d in messages if d["kind"] == kind])
+        first = [worked_seal()] if name == "seal" else worked_open() if name == "open" else []
+        write(name, first + [case(d) for d in messages if d["kind"] == kind])
 
 
 main(sys.argv[1])

@@ -20,20 +20,12 @@ use Rattle.format.specs.Promise.{sealed-as, not-sealed, seal-answer}
 use Rattle.sealing.specs.Whole.{sealed-message}
 use Rattle.sealing.specs.Answers.{MessageLength}
 use Rattle.header.specs.Checked.{answer-number}
-use Rattle.header.specs.Refusal.{refusal-number}
+use Rattle.header.proofs.Refusals.{numbers-positive}
 use Rattle.header.specs.declared.refusal.SealRefusal.{SealRefusal}
-use Rattle.header.specs.declared.refusal.SealRefusal.the-variants.{OutLength, KeyOrIdOrFrameLength, Context, EncryptedDataKeys, Text}
 use Rattle.opening.specs.Answer.{answer, text-len}
 use Rattle.opening.specs.declared.message.Opened.{Opened}
 use Rattle.opening.specs.declared.refusal.OpenRefusal.{OpenRefusal}
 use Rattle.strongbox.specs.Answers.{length-told, message-length, length-is, no-length, seal-told, sealed-into, seal-keeps, left-by, left-in}
-
-some-number : (e : SealRefusal) → refusal-number e ≡ 0 → ⊥
-some-number OutLength h = absurd (omega arith)
-some-number KeyOrIdOrFrameLength h = absurd (omega arith)
-some-number Context h = absurd (omega arith)
-some-number EncryptedDataKeys h = absurd (omega arith)
-some-number Text h = absurd (omega arith)
 
 -- by whether the request is refused, and whether the lent bytes are as many as the message's
 told-by : (passed fits : Bool) (m old out : List ℕ) (refusal room : ℕ) (r : Result (Unit {0}) SealRefusal)
@@ -43,7 +35,7 @@ unfolding pick
 told-by true true m old out refusal room (Ok x) p f n e = ap (λ bs. sealed-as bs) e ∙ sym (ap (λ b. pick b (sealed-as m) (not-sealed 1)) f)
 told-by true false m old out refusal room (Ok x) p f n e = absurd (omega arith)
 told-by false fits m old out refusal room (Ok x) p f n e = absurd (true≢false (sym (eq-eqb refusal 0 (sym n)) ∙ p))
-told-by true true m old out refusal room (Err e) p f n k = absurd (some-number e n)
+told-by true true m old out refusal room (Err e) p f n k = absurd (numbers-positive e n)
 told-by true false m old out refusal room (Err e) p f n k = ap (λ i. not-sealed i) n ∙ sym (ap (λ b. pick b (sealed-as m) (not-sealed 1)) f)
 told-by false fits m old out refusal room (Err e) p f n k = ap (λ i. not-sealed i) n
 
@@ -58,7 +50,7 @@ length-by : (passed : Bool) (q : Request) (r : Result ℕ SealRefusal) → eqb (
 unfolding pick sealed-message
 length-by true q (Ok n) p e l = ap (λ k. length-is k) l
 length-by false q (Ok n) p e l = absurd (true≢false (sym (eq-eqb (seal-refusal q) 0 (sym e)) ∙ p))
-length-by true q (Err x) p e l = absurd (some-number x (e ∙ eqb-true (seal-refusal q) 0 p))
+length-by true q (Err x) p e l = absurd (numbers-positive x (e ∙ eqb-true (seal-refusal q) 0 p))
 length-by false q (Err x) p e l = ap (λ k. no-length k) e
 
 pub length-tells : (q : Request) (r : Result ℕ SealRefusal) → answer-number r ≡ seal-refusal q → MessageLength q r → length-told r ≡ message-length (seal-answer q)
