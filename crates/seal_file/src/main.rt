@@ -24,6 +24,7 @@ use inputs::message_id;
 use inputs::pairs_of;
 use inputs::read_data_keys;
 use inputs::read_key;
+use message::Sealed;
 use message::seal_file;
 use std::env;
 use std::fs;
@@ -113,7 +114,7 @@ fn seal_with<'a>(
     let context = context_of(rt.alloc(), given)?;
     let words = data_keys_of(rt.alloc(), given)?;
     check_output(rt, command)?;
-    check_input(rt, command.input)?;
+    let expected = check_input(rt, command.input)?;
     read_key(rt, command.key, key)?;
     let ciphertexts = read_data_keys(rt, words.as_slice())?;
     let pairs = pairs_of(rt, context.as_slice())?;
@@ -125,8 +126,8 @@ fn seal_with<'a>(
         encrypted_data_keys: data_keys.as_slice(),
         frame_length: command.frame_length,
     };
-    let len = seal_file(rt, command, key, header)?;
-    report(rt, len)
+    let sealed = seal_file(rt, command, expected, key, header)?;
+    report(rt, sealed)
 }
 
 // An existing file is replaced only when asked; this is also seen to when OUTPUT takes its place.
@@ -142,23 +143,29 @@ fn check_output<'a>(rt: &LibcRuntime, command: SealCommand<'a>) -> Result<(), Pr
     }
 }
 
-// A text that is too long is refused before anything is written; this is also seen to as it is read.
-fn check_input<'a>(rt: &LibcRuntime, path: &'a str) -> Result<(), Problem<'a>> {
+// How long the text is. One that is too long is refused before anything is written; this is also seen to as it is read.
+fn check_input<'a>(rt: &LibcRuntime, path: &'a str) -> Result<u64, Problem<'a>> {
     match file_len(rt, path) {
         Ok(Some(len)) => {
             if len > MAX_TEXT {
                 return Err(Problem::TextTooLong(path));
             }
-            Ok(())
+            Ok(len)
         }
         Ok(None) => Err(Problem::NoFile(path)),
         Err(error) => Err(Problem::File(Action::Read, path, error)),
     }
 }
 
-fn report<'a>(rt: &LibcRuntime, len: u64) -> Result<(), Problem<'a>> {
-    match println!(rt, "a message of {len} bytes") {
+fn report<'a>(rt: &LibcRuntime, sealed: Sealed) -> Result<(), Problem<'a>> {
+    let text = sealed.text;
+    let frames = sealed.frames;
+    let message = sealed.message;
+    match eprintln!(
+        rt,
+        "strongbox-seal: {text} bytes in, {message} bytes out, frames: {frames}"
+    ) {
         Ok(()) => Ok(()),
-        Err(error) => Err(Problem::File(Action::Write, "standard output", error)),
+        Err(error) => Err(Problem::File(Action::Write, "standard error", error)),
     }
 }

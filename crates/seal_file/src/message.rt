@@ -26,13 +26,22 @@ const REGULAR_BESIDE: usize = 32;
 
 const FINAL_BESIDE: usize = 40;
 
-// Seals INPUT into OUTPUT, and answers how long the message is. Where anything fails, OUTPUT is as it was.
+// What was sealed: so many bytes of text, in so many frames, into a message of so many bytes.
+#[derive(Clone, Copy)]
+pub struct Sealed {
+    pub text: u64,
+    pub frames: u64,
+    pub message: u64,
+}
+
+// Seals INPUT, which is expected to have so many bytes, into OUTPUT. Where anything fails, OUTPUT is as it was.
 pub fn seal_file<'a>(
     rt: &LibcRuntime,
     command: SealCommand<'a>,
+    expected: u64,
     key: &[u8; 32],
     header: HeaderRequest,
-) -> Result<u64, Problem<'a>> {
+) -> Result<Sealed, Problem<'a>> {
     let mut source = match File::open(rt, command.input) {
         Ok(source) => source,
         Err(error) => return Err(Problem::File(Action::Read, command.input, error)),
@@ -41,15 +50,20 @@ pub fn seal_file<'a>(
         Ok(target) => target,
         Err(error) => return Err(Problem::File(Action::Write, command.output, error)),
     };
-    match write_message(rt, &mut source, &mut target, command, key, header) {
-        Ok(len) => match target.finish(rt, command.output, command.force) {
-            Ok(()) => Ok(len),
-            Err(error) => Err(not_placed(command.output, error)),
-        },
+    let sealed = match write_message(rt, &mut source, &mut target, command, key, header) {
+        Ok(sealed) => sealed,
         Err(problem) => {
             target.discard(rt);
-            Err(problem)
+            return Err(problem);
         }
+    };
+    if sealed.text != expected {
+        target.discard(rt);
+        return Err(Problem::Changed(command.input));
+    }
+    match target.finish(rt, command.output, command.force) {
+        Ok(()) => Ok(sealed),
+        Err(error) => Err(not_placed(command.output, error)),
     }
 }
 
@@ -76,7 +90,7 @@ fn write_message<'a>(
     command: SealCommand<'a>,
     key: &[u8; 32],
     header: HeaderRequest,
-) -> Result<u64, Problem<'a>> {
+) -> Result<Sealed, Problem<'a>> {
     let mut start = [0; START_ROOM];
     // The key and the id have 32 bytes, names rise and there is a data key, so a header that is refused is too long.
     let begun = match Sealer::begin(key, header, &mut start) {
@@ -88,8 +102,12 @@ fn write_message<'a>(
         return Err(Problem::HeaderTooLong);
     }
     put(target, &start[0..len], command.output)?;
-    let more = write_text(rt, source, target, command, &mut sealer)?;
-    Ok((len as u64).saturating_add(more))
+    let sealed = write_text(rt, source, target, command, &mut sealer)?;
+    Ok(Sealed {
+        text: sealed.text,
+        frames: sealed.frames,
+        message: (len as u64).saturating_add(sealed.message),
+    })
 }
 
 fn write_text<'a>(
@@ -98,7 +116,7 @@ fn write_text<'a>(
     target: &mut NewFile,
     command: SealCommand<'a>,
     sealer: &mut Sealer,
-) -> Result<u64, Problem<'a>> {
+) -> Result<Sealed, Problem<'a>> {
     let mut room = [0; TEXT_ROOM];
     let size = command.frame_length as usize + 1;
     if size > TEXT_ROOM {
@@ -115,49 +133,56 @@ fn write_cleared<'a>(
     command: SealCommand<'a>,
     sealer: &mut Sealer,
     text: &mut [u8],
-) -> Result<u64, Problem<'a>> {
+) -> Result<Sealed, Problem<'a>> {
     let written = write_frames(source, target, command, sealer, text);
     wipe(rt, text);
     written
 }
 
-// One frame a turn, until the final one; and how long the frames are.
+// One frame a turn, until the final one.
 fn write_frames<'a>(
     source: &mut File,
     target: &mut NewFile,
     command: SealCommand<'a>,
     sealer: &mut Sealer,
     text: &mut [u8],
-) -> Result<u64, Problem<'a>> {
+) -> Result<Sealed, Problem<'a>> {
     let mut held = 0;
-    let mut left = MAX_TEXT;
-    let mut written = 0u64;
+    let mut sealed = Sealed {
+        text: 0,
+        frames: 0,
+        message: 0,
+    };
     for _ in 0..MAX_TEXT {
-        match next_frame(source, target, command, sealer, text, held) {
-            Ok(Turn::Final(n)) => {
-                if n > left {
-                    return Err(Problem::TextTooLong(command.input));
-                }
-                return Ok(
-                    written
-                        .saturating_add(n)
-                        .saturating_add(FINAL_BESIDE as u64),
-                );
-            }
-            Ok(Turn::Regular(n)) => {
-                if n > left {
-                    return Err(Problem::TextTooLong(command.input));
-                }
-                left -= n;
-                written = written
-                    .saturating_add(n)
-                    .saturating_add(REGULAR_BESIDE as u64);
-                held = 1;
-            }
+        let turn = match next_frame(source, target, command, sealer, text, held) {
+            Ok(turn) => turn,
             Err(problem) => return Err(problem),
+        };
+        sealed = with_turn(sealed, turn);
+        if sealed.text > MAX_TEXT {
+            return Err(Problem::TextTooLong(command.input));
         }
+        if let Turn::Final(_) = turn {
+            return Ok(sealed);
+        }
+        held = 1;
     }
     Err(Problem::TextTooLong(command.input))
+}
+
+fn with_turn(sealed: Sealed, turn: Turn) -> Sealed {
+    let (text, beside) = match turn {
+        Turn::Regular(n) => (n, REGULAR_BESIDE),
+        Turn::Final(n) => (n, FINAL_BESIDE),
+    };
+    Sealed {
+        text: sealed.text.saturating_add(text),
+        frames: sealed.frames.saturating_add(1),
+        message: sealed
+            .message
+            .saturating_add(text)
+            .saturating_add(beside as u64),
+    }
 }
 
 // What a turn sealed, and how much text it took.
