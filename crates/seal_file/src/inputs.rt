@@ -1,36 +1,13 @@
 // What a command names: the key, the encrypted data keys, the context and the message id.
 use cli::context::Pair as NamedValue;
-use cli::key::parse_key;
 use cli::split::DataKeyWord;
 use commands::limits::MAX_HEADER;
 use commands::problem::Action;
 use commands::problem::Problem;
 use files::read::random_32;
-use files::read::read_start;
 use files::read::read_whole;
-use files::read::wipe;
 use header::EncryptedDataKey;
 use header::Pair;
-
-// The key in a file, into lent bytes; what was read is cleared.
-pub fn read_key<'a>(
-    rt: &LibcRuntime,
-    path: &'a str,
-    key: &mut [u8; 32],
-) -> Result<(), Problem<'a>> {
-    let mut bytes = [0; 66];
-    let parsed = match read_start(rt, path, &mut bytes) {
-        Ok(n) => Ok(parse_key(&bytes[0..n])),
-        Err(error) => Err(Problem::File(Action::Read, path, error)),
-    };
-    wipe(rt, &mut bytes);
-    let Some(mut found) = parsed? else {
-        return Err(Problem::NoKey(path));
-    };
-    key.copy_from_slice(&found);
-    wipe(rt, &mut found);
-    Ok(())
-}
 
 fn read_data_key<'a>(rt: &LibcRuntime, path: &'a str) -> Result<Vec<u8>, Problem<'a>> {
     match read_whole(rt, path, MAX_HEADER as u32) {

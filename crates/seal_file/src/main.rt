@@ -23,11 +23,12 @@ use inputs::encrypted_keys;
 use inputs::message_id;
 use inputs::pairs_of;
 use inputs::read_data_keys;
-use inputs::read_key;
 use message::Sealed;
 use message::seal_file;
+use programs::check_output;
+use programs::read_key;
+use programs::say;
 use std::env;
-use std::fs;
 use std::io;
 
 const VERSION: &str = "strongbox-seal 1.0.0";
@@ -97,13 +98,6 @@ fn run<'a>(rt: &LibcRuntime, words: &'a [String]) -> Result<(), Problem<'a>> {
     result
 }
 
-fn say<'a>(rt: &LibcRuntime, line: &str) -> Result<(), Problem<'a>> {
-    match println!(rt, "{line}") {
-        Ok(()) => Ok(()),
-        Err(error) => Err(Problem::File(Action::Write, "standard output", error)),
-    }
-}
-
 // Reads what the command names, and seals; the key goes into lent bytes, which the caller clears.
 fn seal_with<'a>(
     rt: &LibcRuntime,
@@ -113,7 +107,7 @@ fn seal_with<'a>(
 ) -> Result<(), Problem<'a>> {
     let context = context_of(rt.alloc(), given)?;
     let words = data_keys_of(rt.alloc(), given)?;
-    check_output(rt, command)?;
+    check_output(rt, command.output, command.force)?;
     let expected = check_input(rt, command.input)?;
     read_key(rt, command.key, key)?;
     let ciphertexts = read_data_keys(rt, words.as_slice())?;
@@ -128,19 +122,6 @@ fn seal_with<'a>(
     };
     let sealed = seal_file(rt, command, expected, key, header)?;
     report(rt, sealed)
-}
-
-// An existing file is replaced only when asked; this is also seen to when OUTPUT takes its place.
-fn check_output<'a>(rt: &LibcRuntime, command: SealCommand<'a>) -> Result<(), Problem<'a>> {
-    match fs::exists(rt, command.output) {
-        Ok(found) => {
-            if found && !command.force {
-                return Err(Problem::Exists(command.output));
-            }
-            Ok(())
-        }
-        Err(error) => Err(Problem::File(Action::Read, command.output, error)),
-    }
 }
 
 // How long the text is. One that is too long is refused before anything is written; this is also seen to as it is read.

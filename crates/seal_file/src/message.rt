@@ -10,9 +10,9 @@ use files::new_file::NewFile;
 use files::read::read_full;
 use files::read::wipe;
 use header::HeaderRequest;
+use programs::finish_output;
 use sealing::Sealer;
 use std::fs::File;
-use std::io;
 
 // The largest header with its tag, the largest text of a frame with a byte after it, and the largest frame.
 const START_ROOM: usize = 16400;
@@ -61,18 +61,8 @@ pub fn seal_file<'a>(
         target.discard(rt);
         return Err(Problem::Changed(command.input));
     }
-    match target.finish(rt, command.output, command.force) {
-        Ok(()) => Ok(sealed),
-        Err(error) => Err(not_placed(command.output, error)),
-    }
-}
-
-fn not_placed<'a>(path: &'a str, error: io::Error) -> Problem<'a> {
-    if error.kind() == io::ErrorKind::AlreadyExists {
-        Problem::Exists(path)
-    } else {
-        Problem::File(Action::Write, path, error)
-    }
+    finish_output(rt, target, command.output, command.force)?;
+    Ok(sealed)
 }
 
 fn put<'a>(target: &mut NewFile, bytes: &[u8], path: &'a str) -> Result<(), Problem<'a>> {
