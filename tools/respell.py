@@ -18,7 +18,9 @@ LIBRARY = {"length", "append", "take", "drop", "map", "filter", "replicate", "re
 # words of the definitions that are plain words in a lemma's name
 PLAIN = {"after", "count", "digit", "digits-on", "end", "frames", "joined", "last", "listed", "message", "none", "number", "parts", "pieces", "refused", "rest",
          "round", "rounds", "some_of", "start", "told", "value", "within", "word", "frame-length"}
-SPECIAL = {"product-xor-left": "product-xor_left", "data-keys-some-of": "data_keys_some_of", "read-frame-length": "read_frame_length"}
+# bit_and and bit_xor are the library's, of two numbers of any size
+SPECIAL = {"bit-and": "bits_and", "bit-xor": "bits_xor", "bit-and-is": "bits_and_is", "bit-xor-is": "bits_xor_is", "bit-xor-lt": "bits_xor_lt",
+           "bit-xor-twice": "bits_xor_twice", "product-xor-left": "product-xor_left", "data-keys-some-of": "data_keys_some_of", "read-frame-length": "read_frame_length"}
 MADE = ("in-", "if-", "else-", "then-", "loop-", "returns", "overflow_", "bounds-", "match-")
 
 
@@ -104,10 +106,12 @@ def renamings():
             continue
         if "type" in kinds:
             out[name] = camel(name)
+        elif name in SPECIAL:
+            out[name] = SPECIAL[name]
         elif any("/specs/" in p for ps in kinds.values() for p in ps):
             out[name] = snake(name)
         elif "term" in kinds:
-            out[name] = SPECIAL.get(name) or lemma(name, words)
+            out[name] = lemma(name, words)
         else:
             out[name] = snake(name)
     return out, found

@@ -2,8 +2,8 @@
 use Rattle.std.proofs.Common.{◌≡◌, ℕ, ◌+◌, ◌-◌, ◌*◌, ◌/◌, ◌%◌, ◌^◌, ◌<◌, Bool, true, false, ltb, sym, refl, ap, ◌∙◌, ap₂, arith}
 use lib.Bits.{bit_xor, bit_or, xor_comm, xor_assoc, or_shifted_r}
 use Rattle.std.proofs.lemmas.Bool.{ltb-true}
-use Rattle.octets.specs.Bits.{pick, bit_xor}
-use Rattle.octets.proofs.Bits.{bit_xor_is, bit_xor_lt}
+use Rattle.octets.specs.Bits.{pick, bits_xor}
+use Rattle.octets.proofs.Bits.{bits_xor_is, bits_xor_lt}
 use Rattle.aes256.specs.Field.{xtime}
 use Rattle.aes256.specs.Aes.{mix_byte, sub_byte}
 use Rattle.aes256.specs.Columns.{word, column, mixed_word}
@@ -12,30 +12,30 @@ use Rattle.aes256.proofs.WordBytes.{xor_byte, xor_words}
 -- what each operation gives is a byte
 pub sub_lt : (a : ℕ) → sub_byte a < 256
 unfolding sub_byte
-sub_lt a = bit_xor_lt 8 _ _
+sub_lt a = bits_xor_lt 8 _ _
 
-xtime_cases : (a : ℕ) (t : Bool) → ltb a 128 ≡ t → pick t (2 * a) (bit_xor 8 (2 * a - 256) 27) < 256
+xtime_cases : (a : ℕ) (t : Bool) → ltb a 128 ≡ t → pick t (2 * a) (bits_xor 8 (2 * a - 256) 27) < 256
 unfolding pick
 xtime_cases a true e = let h : a < 128 = ltb-true a 128 e in omega arith
-xtime_cases a false e = bit_xor_lt 8 (2 * a - 256) 27
+xtime_cases a false e = bits_xor_lt 8 (2 * a - 256) 27
 
 pub xtime_lt : (a : ℕ) → xtime a < 256
 xtime_lt a = xtime_cases a (ltb a 128) refl
 
 pub mix_lt : (a b c d : ℕ) → mix_byte a b c d < 256
-mix_lt a b c d = bit_xor_lt 8 (bit_xor 8 (xtime a) (bit_xor 8 (xtime b) b)) (bit_xor 8 c d)
+mix_lt a b c d = bits_xor_lt 8 (bits_xor 8 (xtime a) (bits_xor 8 (xtime b) b)) (bits_xor 8 c d)
 
 -- three times a byte
 abbrev thrice : ℕ → ℕ
-thrice a = bit_xor 8 (xtime a) a
+thrice a = bits_xor 8 (xtime a) a
 
 thrice_lt : (a : ℕ) → thrice a < 256
-thrice_lt a = bit_xor_lt 8 (xtime a) a
+thrice_lt a = bits_xor_lt 8 (xtime a) a
 
 mix_is : (a b c d : ℕ) → c < 256 → d < 256 → mix_byte a b c d ≡ bit_xor (bit_xor (xtime a) (thrice b)) (bit_xor c d)
 mix_is a b c d r s =
-    bit_xor_is 8 (bit_xor 8 (xtime a) (thrice b)) (bit_xor 8 c d) (bit_xor_lt 8 (xtime a) (thrice b)) (bit_xor_lt 8 c d)
-    ∙ ap₂ bit_xor (bit_xor_is 8 (xtime a) (thrice b) (xtime_lt a) (thrice_lt b)) (bit_xor_is 8 c d r s)
+    bits_xor_is 8 (bits_xor 8 (xtime a) (thrice b)) (bits_xor 8 c d) (bits_xor_lt 8 (xtime a) (thrice b)) (bits_xor_lt 8 c d)
+    ∙ ap₂ bit_xor (bits_xor_is 8 (xtime a) (thrice b) (xtime_lt a) (thrice_lt b)) (bits_xor_is 8 c d r s)
 
 -- four terms, the first put last
 xor_cycle : (a b c d : ℕ) → bit_xor (bit_xor a b) (bit_xor c d) ≡ bit_xor (bit_xor b c) (bit_xor d a)

@@ -4,7 +4,7 @@ use lib.Bits.{bit_xor, xor_block, xor_lt}
 use Rattle.std.proofs.lemmas.List.{drop_more, drop_all}
 use Rattle.std.proofs.lemmas.Nat.{shr-shr, shr_split}
 use Rattle.octets.specs.Bytes.{xor_bytes}
-use Rattle.octets.proofs.Bits.{bit_xor_is}
+use Rattle.octets.proofs.Bits.{bits_xor_is}
 use Rattle.aes256.specs.Columns.{word, word_bytes, words_bytes}
 
 pub bytes_of_word : (a b c d : ℕ) → a < 256 → b < 256 → c < 256 → d < 256 → word_bytes (word a b c d) ≡ a ∷ (b ∷ (c ∷ (d ∷ [])))
@@ -44,10 +44,10 @@ xor-word_bytes a b c d k p q r s h =
     let e8 : e < 256 = omega arith in let f8 : f < 256 = omega arith in let g8 : g < 256 = omega arith in let i8 : i < 256 = omega arith in
     ap word_bytes (ap (bit_xor (word a b c d)) (word_of_bytes k h) ∙ xor_words a b c d e f g i q r s f8 g8 i8)
     ∙ bytes_of_word (bit_xor a e) (bit_xor b f) (bit_xor c g) (bit_xor d i) (xor_byte a e p e8) (xor_byte b f q f8) (xor_byte c g r g8) (xor_byte d i s i8)
-    ∙ ap₂ (λ (x : ℕ) (t : List ℕ). x ∷ t) (sym (bit_xor_is 8 a e p e8))
-    (ap₂ (λ (x : ℕ) (t : List ℕ). x ∷ t) (sym (bit_xor_is 8 b f q f8))
-    (ap₂ (λ (x : ℕ) (t : List ℕ). x ∷ t) (sym (bit_xor_is 8 c g r g8))
-    (ap (λ (x : ℕ). x ∷ []) (sym (bit_xor_is 8 d i s i8)))))
+    ∙ ap₂ (λ (x : ℕ) (t : List ℕ). x ∷ t) (sym (bits_xor_is 8 a e p e8))
+    (ap₂ (λ (x : ℕ) (t : List ℕ). x ∷ t) (sym (bits_xor_is 8 b f q f8))
+    (ap₂ (λ (x : ℕ) (t : List ℕ). x ∷ t) (sym (bits_xor_is 8 c g r g8))
+    (ap (λ (x : ℕ). x ∷ []) (sym (bits_xor_is 8 d i s i8)))))
 
 pub xor_any_words : (a b : ℕ) → a < 4294967296 → b < 4294967296 → word_bytes (bit_xor a b) ≡ xor_bytes (word_bytes a) (word_bytes b)
 xor_any_words a b h k =

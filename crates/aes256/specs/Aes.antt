@@ -1,6 +1,6 @@
 -- AES with 256 bits of key (FIPS 197), one block encrypted. These are definitions: they assume nothing.
 use Rattle.std.specs.Prelude.{ℕ, zero, suc, ◌+◌, ◌-◌, ◌*◌, ◌/◌, ◌%◌, List, [], ◌∷◌, ◌++◌, ◌==◌}
-use Rattle.octets.specs.Bits.{pick, bit_xor, pow2}
+use Rattle.octets.specs.Bits.{pick, bits_xor, pow2}
 use Rattle.octets.specs.Bytes.{take, drop, nth, xor_bytes}
 use Rattle.aes256.specs.Field.{xtime, inverse}
 
@@ -11,7 +11,7 @@ rotate_byte n a = (a * pow2 n) % 256 + a / pow2 (8 - n)
 unfoldable pub sub_byte : ℕ → ℕ
 sub_byte a =
     let i : ℕ = inverse a in
-    bit_xor 8 (bit_xor 8 (bit_xor 8 i (rotate_byte 1 i)) (bit_xor 8 (rotate_byte 2 i) (rotate_byte 3 i))) (bit_xor 8 (rotate_byte 4 i) 99)
+    bits_xor 8 (bits_xor 8 (bits_xor 8 i (rotate_byte 1 i)) (bits_xor 8 (rotate_byte 2 i) (rotate_byte 3 i))) (bits_xor 8 (rotate_byte 4 i) 99)
 
 unfoldable pub sub_bytes : List ℕ → List ℕ
 sub_bytes [] = []
@@ -24,7 +24,7 @@ shift_rows s =
     (nth s 8 ∷ (nth s 13 ∷ (nth s 2 ∷ (nth s 7 ∷ (nth s 12 ∷ (nth s 1 ∷ (nth s 6 ∷ (nth s 11 ∷ [])))))))))))))))
 
 abbrev pub mix_byte : ℕ → ℕ → ℕ → ℕ → ℕ
-mix_byte a b c d = bit_xor 8 (bit_xor 8 (xtime a) (bit_xor 8 (xtime b) b)) (bit_xor 8 c d)
+mix_byte a b c d = bits_xor 8 (bits_xor 8 (xtime a) (bits_xor 8 (xtime b) b)) (bits_xor 8 c d)
 
 unfoldable pub mix_columns : ℕ → List ℕ → List ℕ
 mix_columns zero s = []

@@ -1,6 +1,6 @@
 -- A column of four bytes as a word of 32 bits, the first byte highest; bytes substituted and mixed, as words.
 use Rattle.std.specs.Prelude.{ℕ, ◌+◌, ◌*◌, ◌/◌, ◌%◌, List, [], ◌∷◌, ◌++◌}
-use Rattle.octets.specs.Bits.{bit_xor}
+use Rattle.octets.specs.Bits.{bits_xor}
 use Rattle.aes256.specs.Field.{xtime}
 use Rattle.aes256.specs.Aes.{sub_byte, mix_byte}
 
@@ -17,7 +17,7 @@ words_bytes (w ∷ ws) = word_bytes w ++ words_bytes ws
 
 -- what the first byte of a column adds to the mixed column
 abbrev pub column : ℕ → ℕ
-column a = word (xtime a) a a (bit_xor 8 (xtime a) a)
+column a = word (xtime a) a a (bits_xor 8 (xtime a) a)
 
 -- a column mixed
 unfoldable pub mixed_word : ℕ → ℕ → ℕ → ℕ → ℕ

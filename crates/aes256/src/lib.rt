@@ -2,6 +2,8 @@
 // What a call returns is the value of the definitions in specs/Aes, for every key and every block.
 // Decryption is not here: counter mode has no need of it.
 // Tables are read at places that depend on key and block, so the time that a call takes may tell something of both.
+#![tactic(auto)]
+
 mod block;
 mod columns;
 mod examples;

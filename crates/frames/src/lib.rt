@@ -1,6 +1,8 @@
 // Frames: the parts that a message's text is sealed in, one AEAD call each.
 // A frame is written into lent bytes of exactly its length and read from the front of others; every call says what it gives and
 // leaves, and takes whatever it is handed: where lengths don't fit it refuses, and the lent bytes are as they were.
+#![tactic(auto)]
+
 mod aad;
 mod frame;
 mod next;

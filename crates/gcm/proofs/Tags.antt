@@ -1,7 +1,7 @@
 -- The tag's parts: the block of lengths, and GHASH of additional data, ciphertext and lengths one after the other.
 use Rattle.std.proofs.Common.{◌≡◌, ℕ, ◌+◌, ◌-◌, ◌*◌, ◌/◌, ◌%◌, ◌^◌, List, ◌++◌, length, sym, ap, ◌∙◌, ap₂, mul_comm, arith, length-append, take_all, drop_at}
 use lib.ListN.{length-replicate}
-use Rattle.octets.specs.Bits.{bit_xor}
+use Rattle.octets.specs.Bits.{bits_xor}
 use Rattle.octets.specs.Bytes.{take, drop, repeat, to_bytes, number, of_bytes}
 use Rattle.octets.proofs.Lists.{take_is, drop_is, repeat_is}
 use Rattle.octets.proofs.Numbers.{number_append, number_shift, length-to_bytes, of_to_bytes_mod}
@@ -31,7 +31,7 @@ length_block s =
     omega (arith, length-append s (repeat ((16 - length s % 16) % 16) 0))
 
 pub three_parts : (h : ℕ) (a c l : List ℕ) → length l ≡ 16
-    → product (bit_xor 128 (ghash (length (zero_padded c) / 16) h (ghash (length (zero_padded a) / 16) h 0 (zero_padded a)) (zero_padded c)) (of_bytes l)) h
+    → product (bits_xor 128 (ghash (length (zero_padded c) / 16) h (ghash (length (zero_padded a) / 16) h 0 (zero_padded a)) (zero_padded c)) (of_bytes l)) h
     ≡ ghash (length (zero_padded a ++ (zero_padded c ++ l)) / 16) h 0 (zero_padded a ++ (zero_padded c ++ l))
 three_parts h a c l hl =
     let p : List ℕ = zero_padded a in
@@ -47,4 +47,4 @@ three_parts h a c l hl =
     ∙ (ghash-append m (n + 1) h 0 p (q ++ l) lp
     ∙ (ghash-append n 1 h (ghash m h 0 p) q l lq
     ∙ (ghash_step 0 h z l
-    ∙ (ghash_done h (product (bit_xor 128 z (of_bytes (take 16 l))) h) (drop 16 l) ∙ ap (λ ys. product (bit_xor 128 z (of_bytes ys)) h) (take_is 16 l ∙ take_all 16 l (omega arith)))))))
+    ∙ (ghash_done h (product (bits_xor 128 z (of_bytes (take 16 l))) h) (drop 16 l) ∙ ap (λ ys. product (bits_xor 128 z (of_bytes ys)) h) (take_is 16 l ∙ take_all 16 l (omega arith)))))))

@@ -3,10 +3,10 @@ use Rattle.std.proofs.Common.{◌≡◌, ℕ, zero, suc, ◌+◌, ◌-◌, ◌*�
 use native.Mathlib.Nat.{mod-one}
 use lib.Bits.{bit_xor, xor_zero_r, xor_assoc, xor_self, xor_shifted}
 use lib.Pow.{pow-lt, mod-pow-add}
-use Rattle.octets.specs.Bits.{pick, bit_xor}
+use Rattle.octets.specs.Bits.{pick, bits_xor}
 use Rattle.ghash.specs.Field.{product_steps, product, reduction}
 use Rattle.ghash.specs.Steps.{times_x}
-use Rattle.octets.proofs.Bits.{bit_xor_is}
+use Rattle.octets.proofs.Bits.{bits_xor_is}
 use Rattle.ghash.proofs.Steps.{product_steps_done}
 use Rattle.ghash.proofs.Linear.{Fit, by_bit, by_bit_lt, bit, bit_lt, times_x_fit, times_x-xor, xor_fit, product_steps_more, product_steps_fit, linear_left, linear_right}
 
@@ -16,15 +16,15 @@ zero_fit = pow_pos 128
 pub product_fit : (x y : ℕ) → Fit y → Fit (product x y)
 product_fit x y hy = product_steps_fit 128 x y 0 hy zero_fit
 
-pub product-xor_left : (a b h : ℕ) → Fit a → Fit b → Fit h → product (bit_xor 128 a b) h ≡ bit_xor 128 (product a h) (product b h)
+pub product-xor_left : (a b h : ℕ) → Fit a → Fit b → Fit h → product (bits_xor 128 a b) h ≡ bits_xor 128 (product a h) (product b h)
 product-xor_left a b h ha hb hh =
-    ap (λ k. product k h) (bit_xor_is 128 a b ha hb)
-    ∙ (linear_left 128 a b h 0 0 hh zero_fit zero_fit ∙ sym (bit_xor_is 128 (product a h) (product b h) (product_fit a h hh) (product_fit b h hh)))
+    ap (λ k. product k h) (bits_xor_is 128 a b ha hb)
+    ∙ (linear_left 128 a b h 0 0 hh zero_fit zero_fit ∙ sym (bits_xor_is 128 (product a h) (product b h) (product_fit a h hh) (product_fit b h hh)))
 
-pub product-xor_right : (x a b : ℕ) → Fit a → Fit b → product x (bit_xor 128 a b) ≡ bit_xor 128 (product x a) (product x b)
+pub product-xor_right : (x a b : ℕ) → Fit a → Fit b → product x (bits_xor 128 a b) ≡ bits_xor 128 (product x a) (product x b)
 product-xor_right x a b ha hb =
-    ap (λ k. product x k) (bit_xor_is 128 a b ha hb)
-    ∙ (linear_right 128 x a b 0 0 ha hb zero_fit zero_fit ∙ sym (bit_xor_is 128 (product x a) (product x b) (product_fit x a ha) (product_fit x b hb)))
+    ap (λ k. product x k) (bits_xor_is 128 a b ha hb)
+    ∙ (linear_right 128 x a b 0 0 ha hb zero_fit zero_fit ∙ sym (bits_xor_is 128 (product x a) (product x b) (product_fit x a ha) (product_fit x b hb)))
 
 -- a linear function that commutes with the step commutes with every multiplication
 pub record Passes (f : ℕ → ℕ) : Type 0 where
@@ -77,7 +77,7 @@ times_x_even m h =
     let e : 2 ^ suc m ≡ 2 ^ m * 2 = pow-suc 2 m in
     let d : 2 ^ suc m / 2 ≡ 2 ^ m = omega arith in
     let r : 2 ^ suc m % 2 ≡ 0 = omega arith in
-    ap₂ (λ k l. pick (eqb k 1) (bit_xor 128 l reduction) l) r d
+    ap₂ (λ k l. pick (eqb k 1) (bits_xor 128 l reduction) l) r d
 
 bit_mul : (p v : ℕ) → p < 2 → by_bit p v ≡ p * v
 unfolding pick

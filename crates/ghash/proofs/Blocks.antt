@@ -2,7 +2,7 @@
 use Rattle.std.proofs.Common.{◌≡◌, ℕ, zero, suc, ◌+◌, ◌-◌, ◌*◌, ◌/◌, ◌%◌, ◌<◌, ◌≤◌, List, ◌++◌, length, drop as dropN, sym, refl, ap, ◌∙◌, subst, ap₂, append-nil, arith, length-append, length-drop, take_all, drop-drop}
 use lib.ListN.{length-replicate}
 use lib.Seq.{take-append-le, drop-append-le}
-use Rattle.octets.specs.Bits.{bit_xor}
+use Rattle.octets.specs.Bits.{bits_xor}
 use Rattle.octets.specs.Bytes.{take, drop, repeat, of_bytes}
 use Rattle.ghash.specs.Field.{product}
 use Rattle.ghash.specs.Ghash.{ghash, zero_padded}
@@ -12,14 +12,14 @@ pub ghash_done : (h a : ℕ) (bs : List ℕ) → ghash zero h a bs ≡ a
 unfolding ghash
 ghash_done h a bs = refl
 
-pub ghash_step : (n h a : ℕ) (bs : List ℕ) → ghash (suc n) h a bs ≡ ghash n h (product (bit_xor 128 a (of_bytes (take 16 bs))) h) (drop 16 bs)
+pub ghash_step : (n h a : ℕ) (bs : List ℕ) → ghash (suc n) h a bs ≡ ghash n h (product (bits_xor 128 a (of_bytes (take 16 bs))) h) (drop 16 bs)
 unfolding ghash
 ghash_step n h a bs = refl
 
 pub drop_drops : (m n k : ℕ) (s : List ℕ) → n + m ≡ k → drop m (drop n s) ≡ drop k s
 drop_drops m n k s e = drop_is m (drop n s) ∙ (ap (λ ys. dropN m ys) (drop_is n s) ∙ (drop-drop m n s ∙ (ap (λ j. dropN j s) e ∙ sym (drop_is k s))))
 
-pub ghash_turn : (n i h a b r : ℕ) (s : List ℕ) → i < n → b ≡ product (bit_xor 128 a (of_bytes (take 16 (drop (16 * i) s)))) h
+pub ghash_turn : (n i h a b r : ℕ) (s : List ℕ) → i < n → b ≡ product (bits_xor 128 a (of_bytes (take 16 (drop (16 * i) s)))) h
     → ghash (n - i) h a (drop (16 * i) s) ≡ r → ghash (n - (i + 1)) h b (drop (16 * (i + 1)) s) ≡ r
 ghash_turn n i h a b r s hi hb inv =
     let m : ℕ = n - (i + 1) in
@@ -42,8 +42,8 @@ ghash_front (suc n) h a xs ys l =
     let d : drop 16 (xs ++ ys) ≡ drop 16 xs ++ ys = drop_is 16 (xs ++ ys) ∙ (drop-append-le 16 xs ys t ∙ ap (λ zs. zs ++ ys) (sym (drop_is 16 xs))) in
     let m : 16 * n ≤ length (drop 16 xs) = subst (λ zs. 16 * n ≤ length zs) (sym (drop_is 16 xs)) (omega (arith, length-drop 16 xs)) in
     ghash_step n h a (xs ++ ys)
-    ∙ (ap₂ (λ k zs. ghash n h (product (bit_xor 128 a (of_bytes k)) h) zs) b d
-    ∙ (ghash_front n h (product (bit_xor 128 a (of_bytes (take 16 xs))) h) (drop 16 xs) ys m ∙ sym (ghash_step n h a xs)))
+    ∙ (ap₂ (λ k zs. ghash n h (product (bits_xor 128 a (of_bytes k)) h) zs) b d
+    ∙ (ghash_front n h (product (bits_xor 128 a (of_bytes (take 16 xs))) h) (drop 16 xs) ys m ∙ sym (ghash_step n h a xs)))
 
 -- in two parts
 pub ghash_parts : (m n h a : ℕ) (bs : List ℕ) → ghash (m + n) h a bs ≡ ghash n h (ghash m h a bs) (drop (16 * m) bs)
@@ -54,7 +54,7 @@ ghash_parts zero n h a bs =
 ghash_parts (suc m) n h a bs =
     let e : suc m + n ≡ suc (m + n) = omega arith in
     let f : 16 + 16 * m ≡ 16 * suc m = omega arith in
-    let b : ℕ = product (bit_xor 128 a (of_bytes (take 16 bs))) h in
+    let b : ℕ = product (bits_xor 128 a (of_bytes (take 16 bs))) h in
     ap (λ k. ghash k h a bs) e
     ∙ (ghash_step (m + n) h a bs
     ∙ (ghash_parts m n h b (drop 16 bs)
@@ -70,7 +70,7 @@ padded_whole s h a r e g =
 -- and any other has one block more
 pub padded_last : (s rest last : List ℕ) (h acc a : ℕ) → (length s / 16 * 16 ≡ length s → ⊥) → rest ≡ dropN (length s / 16 * 16) s → last ≡ rest ++ repeat (16 - length rest) 0
     → a ≡ ghash (length s / 16) h acc s
-    → product (bit_xor 128 a (of_bytes last)) h ≡ ghash (length (zero_padded s) / 16) h acc (zero_padded s)
+    → product (bits_xor 128 a (of_bytes last)) h ≡ ghash (length (zero_padded s) / 16) h acc (zero_padded s)
 padded_last s rest last h acc a ne er el ea =
     let m : ℕ = length s / 16 in
     let lr : length rest ≡ length s - m * 16 = ap length er ∙ length-drop (m * 16) s in
@@ -90,4 +90,4 @@ padded_last s rest last h acc a ne er el ea =
     ∙ (ghash_parts m 1 h acc (s ++ pad)
     ∙ (ap₂ (λ k ys. ghash 1 h k ys) (ghash_front m h acc s pad le ∙ sym ea) d
     ∙ (ghash_step 0 h a last
-    ∙ (ghash_done h (product (bit_xor 128 a (of_bytes (take 16 last))) h) (drop 16 last) ∙ ap (λ ys. product (bit_xor 128 a (of_bytes ys)) h) z)))))
+    ∙ (ghash_done h (product (bits_xor 128 a (of_bytes (take 16 last))) h) (drop 16 last) ∙ ap (λ ys. product (bits_xor 128 a (of_bytes ys)) h) z)))))

@@ -1,10 +1,10 @@
 -- The product is linear in each factor.
 use Rattle.std.proofs.Common.{◌≡◌, ℕ, zero, suc, ◌-◌, ◌/◌, ◌%◌, ◌^◌, ◌<◌, Bool, true, false, eqb, sym, refl, ap, ◌∙◌, subst, ap₂, arith, pow_pos}
 use lib.Bits.{bit_xor, xor_shr, xor_mod, xor_lt, xor_zero_r, xor_assoc, xor_comm, xor_self}
-use Rattle.octets.specs.Bits.{pick, bit_xor}
+use Rattle.octets.specs.Bits.{pick, bits_xor}
 use Rattle.ghash.specs.Field.{product_steps, reduction}
 use Rattle.ghash.specs.Steps.{times_x}
-use Rattle.octets.proofs.Bits.{pow2_is, bit_xor_is}
+use Rattle.octets.proofs.Bits.{pow2_is, bits_xor_is}
 use Rattle.ghash.proofs.Steps.{product_steps_done, product_steps_step}
 
 -- fits 128 bits
@@ -46,9 +46,9 @@ pick_split false v u = refl
 pub by_bit_split : (p v u : ℕ) → by_bit p (bit_xor v u) ≡ bit_xor (by_bit p v) (by_bit p u)
 by_bit_split p v u = pick_split (eqb p 1) v u
 
-pick-add : (b : Bool) (z v : ℕ) → Fit z → Fit v → pick b (bit_xor 128 z v) z ≡ bit_xor z (pick b v 0)
+pick-add : (b : Bool) (z v : ℕ) → Fit z → Fit v → pick b (bits_xor 128 z v) z ≡ bit_xor z (pick b v 0)
 unfolding pick
-pick-add true z v hz hv = bit_xor_is 128 z v hz hv
+pick-add true z v hz hv = bits_xor_is 128 z v hz hv
 pick-add false z v hz hv = sym (xor_zero_r z)
 
 -- bit n
@@ -86,7 +86,7 @@ times_x-xor a b ha hb =
 pub product_steps_more : (n x v z : ℕ) → Fit v → Fit z → product_steps (suc n) x v z ≡ product_steps n x (times_x v) (bit_xor z (by_bit (bit x n) v))
 product_steps_more n x v z hv hz =
     product_steps_step n x v z
-    ∙ ap (λ k. product_steps n x (times_x v) k) (ap (λ k. pick (eqb (x / k % 2) 1) (bit_xor 128 z v) z) (pow2_is n) ∙ pick-add (eqb (bit x n) 1) z v hz hv)
+    ∙ ap (λ k. product_steps n x (times_x v) k) (ap (λ k. pick (eqb (x / k % 2) 1) (bits_xor 128 z v) z) (pow2_is n) ∙ pick-add (eqb (bit x n) 1) z v hz hv)
 
 pub product_steps_fit : (n x v z : ℕ) → Fit v → Fit z → Fit (product_steps n x v z)
 product_steps_fit zero x v z hv hz = subst (λ k. Fit k) (sym (product_steps_done x v z)) hz

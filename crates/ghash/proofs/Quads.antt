@@ -4,11 +4,11 @@ use lib.Bits.{bit_xor, bit_and, bit_or, and_mask, and_comm, and_high, or_shifted
 use mir.Val.{bool_byte}
 use Rattle.std.proofs.lemmas.Nat.{one_shl}
 use Rattle.std.proofs.lemmas.Bool.{eq-eqb, ne_eqb}
-use Rattle.octets.specs.Bits.{pick, bit_xor}
+use Rattle.octets.specs.Bits.{pick, bits_xor}
 use Rattle.ghash.specs.Field.{product_steps}
 use Rattle.ghash.specs.Steps.{times_x, times_power}
 use Rattle.ghash.specs.Rows.{four_words, row_value}
-use Rattle.octets.proofs.Bits.{bit_xor_is}
+use Rattle.octets.proofs.Bits.{bits_xor_is}
 use Rattle.ghash.proofs.Steps.{product_steps_done}
 use Rattle.ghash.proofs.Runs.{product_steps_bit, times_power_more}
 
@@ -45,17 +45,17 @@ masked false x h = refl
 
 -- exclusive or, word by word
 pub words_xor : (a b c d e f g h : ℕ) → Word a → Word b → Word c → Word d → Word e → Word f → Word g → Word h
-    → four_words (bit_xor a e) (bit_xor b f) (bit_xor c g) (bit_xor d h) ≡ bit_xor 128 (four_words a b c d) (four_words e f g h)
+    → four_words (bit_xor a e) (bit_xor b f) (bit_xor c g) (bit_xor d h) ≡ bits_xor 128 (four_words a b c d) (four_words e f g h)
 words_xor a b c d e f g h ha hb hc hd he hf hg hh =
     sym
-    (bit_xor_is 128 (four_words a b c d) (four_words e f g h) (omega arith) (omega arith)
+    (bits_xor_is 128 (four_words a b c d) (four_words e f g h) (omega arith) (omega arith)
     ∙ (xor_block 32 ((a * 2 ^ 32 + b) * 2 ^ 32 + c) ((e * 2 ^ 32 + f) * 2 ^ 32 + g) d h hd hh
     ∙ (ap (λ k. k * 2 ^ 32 + bit_xor d h) (xor_block 32 (a * 2 ^ 32 + b) (e * 2 ^ 32 + f) c g hc hg)
     ∙ ap (λ k. (k * 2 ^ 32 + bit_xor c g) * 2 ^ 32 + bit_xor d h) (xor_block 32 a e b f hb hf))))
 
 chosen : (t : Bool) (a b c d e f g h : ℕ) → Word a → Word b → Word c → Word d → Word e → Word f → Word g → Word h
     → four_words (bit_xor a (pick t e 0)) (bit_xor b (pick t f 0)) (bit_xor c (pick t g 0)) (bit_xor d (pick t h 0))
-    ≡ pick t (bit_xor 128 (four_words a b c d) (four_words e f g h)) (four_words a b c d)
+    ≡ pick t (bits_xor 128 (four_words a b c d) (four_words e f g h)) (four_words a b c d)
 unfolding pick
 chosen true a b c d e f g h ha hb hc hd he hf hg hh = words_xor a b c d e f g h ha hb hc hd he hf hg hh
 chosen false a b c d e f g h ha hb hc hd he hf hg hh =
@@ -63,7 +63,7 @@ chosen false a b c d e f g h ha hb hc hd he hf hg hh =
 
 pub words_add : (t : Bool) (m a b c d e f g h : ℕ) → m ≡ pick t 4294967295 0 → Word a → Word b → Word c → Word d → Word e → Word f → Word g → Word h
     → four_words (bit_xor a (bit_and m e)) (bit_xor b (bit_and m f)) (bit_xor c (bit_and m g)) (bit_xor d (bit_and m h))
-    ≡ pick t (bit_xor 128 (four_words a b c d) (four_words e f g h)) (four_words a b c d)
+    ≡ pick t (bits_xor 128 (four_words a b c d) (four_words e f g h)) (four_words a b c d)
 words_add t m a b c d e f g h hm ha hb hc hd he hf hg hh =
     ap (λ k. four_words (bit_xor a (bit_and k e)) (bit_xor b (bit_and k f)) (bit_xor c (bit_and k g)) (bit_xor d (bit_and k h))) hm
     ∙ (ap₂ (λ k l. four_words (bit_xor a k) (bit_xor b l) (bit_xor c (bit_and (pick t 4294967295 0) g)) (bit_xor d (bit_and (pick t 4294967295 0) h))) (masked t e he) (masked t f hf)
@@ -85,7 +85,7 @@ pub split_words : (h l : ℕ) → four_words (h / 2 ^ 32) (bit_and h 4294967295)
 split_words h l = ap₂ (λ k m. four_words (h / 2 ^ 32) k (l / 2 ^ 32) m) (low_half h) (low_half l) ∙ omega arith
 
 -- a turn of a run
-pub run_turn : (j w from h z e y r : ℕ) → j < 32 → e ≡ times_power (from + j) h → y ≡ pick (eqb (w / 2 ^ (31 - j) % 2) 1) (bit_xor 128 z e) z
+pub run_turn : (j w from h z e y r : ℕ) → j < 32 → e ≡ times_power (from + j) h → y ≡ pick (eqb (w / 2 ^ (31 - j) % 2) 1) (bits_xor 128 z e) z
     → product_steps (32 - j) w (times_power (from + j) h) z ≡ r → product_steps (32 - (j + 1)) w (times_power (from + (j + 1)) h) y ≡ r
 run_turn j w from h z e y r hj he hy inv =
     let v : ℕ = times_power (from + j) h in
@@ -94,7 +94,7 @@ run_turn j w from h z e y r hj he hy inv =
     let t : from + (j + 1) ≡ from + j + 1 = omega arith in
     let p : ℕ = w / 2 ^ (31 - j) % 2 in
     ap₂ (λ k l. product_steps k w l y) m (ap (λ k. times_power k h) t ∙ sym (times_power_more (from + j) h))
-    ∙ (ap (λ k. product_steps (31 - j) w (times_x v) k) (hy ∙ ap (λ k. pick (eqb p 1) (bit_xor 128 z k) z) he)
+    ∙ (ap (λ k. product_steps (31 - j) w (times_x v) k) (hy ∙ ap (λ k. pick (eqb p 1) (bits_xor 128 z k) z) he)
     ∙ (sym (product_steps_bit (31 - j) w v z p refl) ∙ (ap (λ k. product_steps k w v z) s ∙ inv)))
 
 pub run_done : (j w v z r : ℕ) → 32 ≤ j → product_steps (32 - j) w v z ≡ r → z ≡ r

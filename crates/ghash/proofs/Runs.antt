@@ -1,7 +1,7 @@
 -- The product by runs of the first factor's bits, for tables.
 use Rattle.std.proofs.Common.{◌≡◌, ℕ, zero, suc, ◌+◌, ◌-◌, ◌*◌, ◌/◌, ◌%◌, ◌^◌, ◌<◌, eqb, sym, refl, ap, ◌∙◌, ap₂, add_comm, arith, shr-shr}
 use lib.Pow.{field, mod-mod-pow}
-use Rattle.octets.specs.Bits.{pick, bit_xor}
+use Rattle.octets.specs.Bits.{pick, bits_xor}
 use Rattle.ghash.specs.Field.{product_steps}
 use Rattle.ghash.specs.Steps.{times_x, times_power}
 use Rattle.octets.proofs.Bits.{pow2_is}
@@ -10,7 +10,7 @@ use Rattle.ghash.proofs.Linear.{bit}
 
 -- a step, over a bit that is known
 abbrev plus_if : ℕ → ℕ → ℕ → ℕ
-plus_if p z v = pick (eqb p 1) (bit_xor 128 z v) z
+plus_if p z v = pick (eqb p 1) (bits_xor 128 z v) z
 
 pub product_steps_bit : (n x v z p : ℕ) → bit x n ≡ p → product_steps (suc n) x v z ≡ product_steps n x (times_x v) (plus_if p z v)
 product_steps_bit n x v z p e = product_steps_step n x v z ∙ ap (λ k. product_steps n x (times_x v) (plus_if k z v)) (ap (λ k. x / k % 2) (pow2_is n) ∙ e)

@@ -3,14 +3,14 @@ use Rattle.std.proofs.Common.{◌≡◌, ℕ, zero, suc, ◌+◌, ◌-◌, ◌*�
 use native.Mathlib.Nat.{add-mul-div_right}
 use lib.Bits.{bit_xor, bit_and, bit_or, and_mask, and_comm, or_shifted_r, xor_zero_r, xor_block}
 use lib.Pow.{high}
-use Rattle.octets.specs.Bits.{pick, bit_xor, pow2}
+use Rattle.octets.specs.Bits.{pick, bits_xor, pow2}
 use Rattle.ghash.specs.Field.{reduction}
 use Rattle.ghash.specs.Steps.{times_x}
-use Rattle.octets.proofs.Bits.{pow2_is, bit_xor_is}
+use Rattle.octets.proofs.Bits.{pow2_is, bits_xor_is}
 
 pub xor_words : (h l k m : ℕ) → h < 2 ^ 64 → l < 2 ^ 64 → k < 2 ^ 64 → m < 2 ^ 64
-    → bit_xor h k * 2 ^ 64 + bit_xor l m ≡ bit_xor 128 (h * 2 ^ 64 + l) (k * 2 ^ 64 + m)
-xor_words h l k m hh hl hk hm = sym (bit_xor_is 128 (h * 2 ^ 64 + l) (k * 2 ^ 64 + m) (omega arith) (omega arith) ∙ xor_block 64 h k l m hl hm)
+    → bit_xor h k * 2 ^ 64 + bit_xor l m ≡ bits_xor 128 (h * 2 ^ 64 + l) (k * 2 ^ 64 + m)
+xor_words h l k m hh hl hk hm = sym (bits_xor_is 128 (h * 2 ^ 64 + l) (k * 2 ^ 64 + m) (omega arith) (omega arith) ∙ xor_block 64 h k l m hl hm)
 
 low_bit : (a : ℕ) → bit_and a 1 ≡ a % 2
 low_bit a = and_mask a 1
@@ -49,13 +49,13 @@ bit_high h l n hl hn =
 
 -- one word's choice for both
 pub add_if_words : (b : Bool) (h l k m : ℕ) → h < 2 ^ 64 → l < 2 ^ 64 → k < 2 ^ 64 → m < 2 ^ 64
-    → bit_xor h (pick b k 0) * 2 ^ 64 + bit_xor l (pick b m 0) ≡ pick b (bit_xor 128 (h * 2 ^ 64 + l) (k * 2 ^ 64 + m)) (h * 2 ^ 64 + l)
+    → bit_xor h (pick b k 0) * 2 ^ 64 + bit_xor l (pick b m 0) ≡ pick b (bits_xor 128 (h * 2 ^ 64 + l) (k * 2 ^ 64 + m)) (h * 2 ^ 64 + l)
 unfolding pick
 add_if_words true h l k m hh hl hk hm = xor_words h l k m hh hl hk hm
 add_if_words false h l k m hh hl hk hm = ap₂ (λ a b. a * 2 ^ 64 + b) (xor_zero_r h) (xor_zero_r l)
 
 times_x_if : (b : Bool) (h l : ℕ) → h < 2 ^ 64 → l < 2 ^ 64
-    → bit_xor h (pick b 0xe100000000000000 0) * 2 ^ 64 + l ≡ pick b (bit_xor 128 (h * 2 ^ 64 + l) reduction) (h * 2 ^ 64 + l)
+    → bit_xor h (pick b 0xe100000000000000 0) * 2 ^ 64 + l ≡ pick b (bits_xor 128 (h * 2 ^ 64 + l) reduction) (h * 2 ^ 64 + l)
 unfolding pick
 times_x_if true h l hh hl =
     ap (λ k. bit_xor h 0xe100000000000000 * 2 ^ 64 + k) (sym (xor_zero_r l)) ∙ xor_words h l 0xe100000000000000 0 hh hl (omega arith) (omega arith)
@@ -71,4 +71,4 @@ times_x_words h l hh hl =
     let m : (h * 2 ^ 64 + l) % 2 ≡ bit_and l 1 = omega (arith, low_bit l) in
     ap (λ k. bit_xor (h / 2) (pick (eqb (bit_and l 1) 1) 0xe100000000000000 0) * 2 ^ 64 + k) o
     ∙ (times_x_if (eqb (bit_and l 1) 1) (h / 2) (h % 2 * 2 ^ 63 + l / 2) (omega arith) (omega arith)
-    ∙ ap₂ (λ x y. pick (eqb x 1) (bit_xor 128 y reduction) y) (sym m) (sym d))
+    ∙ ap₂ (λ x y. pick (eqb x 1) (bits_xor 128 y reduction) y) (sym m) (sym d))

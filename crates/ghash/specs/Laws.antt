@@ -1,13 +1,13 @@
 -- The laws of the field's product on elements, numbers of 128 bits. Each is a type whose proof is owed.
 use Rattle.std.specs.Prelude.{◌≡◌, ℕ, ◌^◌, ◌<◌}
-use Rattle.octets.specs.Bits.{bit_xor}
+use Rattle.octets.specs.Bits.{bits_xor}
 use Rattle.ghash.specs.Field.{product}
 
 unfoldable pub LinearLeft : Type 0
-LinearLeft = (a b h : ℕ) → a < 2 ^ 128 → b < 2 ^ 128 → h < 2 ^ 128 → product (bit_xor 128 a b) h ≡ bit_xor 128 (product a h) (product b h)
+LinearLeft = (a b h : ℕ) → a < 2 ^ 128 → b < 2 ^ 128 → h < 2 ^ 128 → product (bits_xor 128 a b) h ≡ bits_xor 128 (product a h) (product b h)
 
 unfoldable pub LinearRight : Type 0
-LinearRight = (h a b : ℕ) → a < 2 ^ 128 → b < 2 ^ 128 → product h (bit_xor 128 a b) ≡ bit_xor 128 (product h a) (product h b)
+LinearRight = (h a b : ℕ) → a < 2 ^ 128 → b < 2 ^ 128 → product h (bits_xor 128 a b) ≡ bits_xor 128 (product h a) (product h b)
 
 unfoldable pub Commutative : Type 0
 Commutative = (a b : ℕ) → a < 2 ^ 128 → b < 2 ^ 128 → product a b ≡ product b a

@@ -1,6 +1,6 @@
 // Elements in two words, and as 16 bytes.
 ghost use Rattle.std.specs.Prelude.{◌≡◌, ◌+◌, ◌^◌, ◌≤◌, length};
-ghost use Rattle.octets.specs.Bits.{bit_xor};
+ghost use Rattle.octets.specs.Bits.{bits_xor};
 ghost use Rattle.octets.specs.Bytes.{take, drop, to_bytes, of_bytes};
 ghost use Rattle.ghash.specs.Element.{value};
 
@@ -31,7 +31,7 @@ impl Element {
 
     // The sum of two elements; their difference as well.
     pub fn add(self, other: Element) -> Element
-        ensures value { value result ≡ bit_xor 128 (value self) (value other) }
+        ensures value { value result ≡ bits_xor 128 (value self) (value other) }
     {
         Element {
             hi: self.hi ^ other.hi,

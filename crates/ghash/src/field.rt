@@ -1,6 +1,6 @@
 // The product of two elements, bit by bit.
 ghost use Rattle.std.specs.Prelude.{◌≡◌, ◌-◌, ◌/◌, ◌%◌, ◌^◌, ◌<◌, ◌==◌};
-ghost use Rattle.octets.specs.Bits.{pick, bit_xor, pow2};
+ghost use Rattle.octets.specs.Bits.{pick, bits_xor, pow2};
 ghost use Rattle.ghash.specs.Field.{product};
 ghost use Rattle.ghash.specs.Element.{value};
 ghost use Rattle.ghash.specs.Steps.{times_x};
@@ -33,7 +33,7 @@ fn bit_at(x: Element, n: u32) -> u64
 // `sum` plus `v` where the bit is 1, else `sum`.
 fn add_if(sum: Element, v: Element, bit: u64) -> Element
     requires { bit < 2 }
-    ensures { value result ≡ pick (bit == 1) (bit_xor 128 (value sum) (value v)) (value sum) }
+    ensures { value result ≡ pick (bit == 1) (bits_xor 128 (value sum) (value v)) (value sum) }
 {
     Element {
         hi: sum.hi ^ masked(bit, v.hi),

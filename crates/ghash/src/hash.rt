@@ -1,6 +1,6 @@
 // GHASH: blocks taken into a state one by one.
 ghost use Rattle.std.specs.Prelude.{◌≡◌, ◌+◌, ◌-◌, ◌*◌, ◌/◌, ◌≤◌, ◌++◌, length};
-ghost use Rattle.octets.specs.Bits.{bit_xor};
+ghost use Rattle.octets.specs.Bits.{bits_xor};
 ghost use Rattle.octets.specs.Bytes.{repeat};
 ghost use Rattle.ghash.specs.Field.{product};
 ghost use Rattle.ghash.specs.Ghash.{ghash, zero_padded};
@@ -12,7 +12,7 @@ use crate::table::Table;
 
 // One block more.
 pub fn hash_block(table: &Table, state: Element, block: Element) -> Element
-    ensures value { value result ≡ product (bit_xor 128 (value state) (value block)) (hash_key_of table.now) }
+    ensures value { value result ≡ product (bits_xor 128 (value state) (value block)) (hash_key_of table.now) }
 {
     table.times(state.add(block))
 }

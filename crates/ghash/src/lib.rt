@@ -1,5 +1,7 @@
 // The field of 2^128 elements and GHASH over it. A hash key is prepared once, as a table, and every hash is GHASH's
 // definition at that key. No place that is read depends on the hash key or on what is hashed.
+#![tactic(auto)]
+
 mod element;
 mod field;
 mod hash;

@@ -1,6 +1,6 @@
 // Elements in four words of 32 bits, the high one first: the form in which rows of a table are added.
 ghost use Rattle.std.specs.Prelude.{◌≡◌, ◌-◌, ◌/◌, ◌%◌, ◌^◌, ◌<◌, ◌==◌};
-ghost use Rattle.octets.specs.Bits.{pick, bit_xor};
+ghost use Rattle.octets.specs.Bits.{pick, bits_xor};
 ghost use Rattle.ghash.specs.Element.{value};
 ghost use Rattle.ghash.specs.Rows.{quad_value};
 
@@ -48,7 +48,7 @@ fn mask(word: u32, n: u32) -> u32
 // `sum` plus `v` where bit `n` of `word` is 1, else `sum`, by a mask.
 pub fn add_masked(sum: Quad, v: Quad, word: u32, n: u32) -> Quad
     requires { n < 32 }
-    ensures { quad_value result ≡ pick (word / 2 ^ n % 2 == 1) (bit_xor 128 (quad_value sum) (quad_value v)) (quad_value sum) }
+    ensures { quad_value result ≡ pick (word / 2 ^ n % 2 == 1) (bits_xor 128 (quad_value sum) (quad_value v)) (quad_value sum) }
 {
     let m = mask(word, n);
     Quad {

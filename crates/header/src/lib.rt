@@ -2,6 +2,8 @@
 // written into lent bytes.
 // Promised: a request is refused by the first check that it fails, with the number that the format gives that refusal; what is
 // written is the format's header, byte for byte, and nothing else changes; where it is refused, nothing is written.
+#![tactic(auto)]
+
 mod checks;
 mod context;
 mod data_keys;

@@ -1,6 +1,8 @@
 // Headers of messages as they are read: strictly, with no key, as parts of the message's bytes.
 // Promised: what is read is exactly what the format says, and bytes that begin with anything else are no header; pairs and data
 // keys come one by one in their order; nothing is copied.
+#![tactic(auto)]
+
 mod cursor;
 mod fields;
 mod read;

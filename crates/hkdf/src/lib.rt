@@ -1,5 +1,7 @@
 // Keys from keys: HMAC and HKDF over SHA-512, and the two keys of a message, each equal to its definition for every input.
 // Keys that are only passed through are overwritten with zeros at the end; nothing is promised of that.
+#![tactic(auto)]
+
 mod kdf;
 mod keys;
 mod known;

@@ -4,7 +4,7 @@ use native.Mathlib.Nat.{mul-mod_left}
 use lib.Arith.{lt-one}
 use lib.Bits.{bit_and, bit_or, bit_xor, and_step, xor_step, or_shifted_r, and_lt, xor_lt, differ}
 use lib.Pow.{mod-pow-add, shl-shr}
-use Rattle.octets.specs.Bits.{pick, bit_and, bit_xor, pow2}
+use Rattle.octets.specs.Bits.{pick, bits_and, bits_xor, pow2}
 
 -- a choice whose test is known
 pub pick_true : {A : Type 0} (b : Bool) (x y : A) → b ≡ true → pick b x y ≡ x
@@ -43,18 +43,18 @@ xor_digit zero (suc (suc y)) hx hy = absurd (not-suc-le-zero (le_of_suc-le-suc (
 xor_digit (suc zero) (suc (suc y)) hx hy = absurd (not-suc-le-zero (le_of_suc-le-suc (le_of_suc-le-suc hy)))
 xor_digit (suc (suc x)) y hx hy = absurd (not-suc-le-zero (le_of_suc-le-suc (le_of_suc-le-suc hx)))
 
-pub bit_and_is : (n a b : ℕ) → a < 2 ^ n → b < 2 ^ n → bit_and n a b ≡ bit_and a b
-unfolding bit_and
-bit_and_is zero a b ha hb = sym (ap (λ (x : ℕ). bit_and x b) (lt-one ha))
-bit_and_is (suc n) a b ha hb =
-    ap₂ (λ (x y : ℕ). x + 2 * y) (and_digit (a % 2) (b % 2) (mod-lt a (zero-lt-suc 1)) (mod-lt b (zero-lt-suc 1))) (bit_and_is n (a / 2) (b / 2) (half_lt n ha) (half_lt n hb))
+pub bits_and_is : (n a b : ℕ) → a < 2 ^ n → b < 2 ^ n → bits_and n a b ≡ bit_and a b
+unfolding bits_and
+bits_and_is zero a b ha hb = sym (ap (λ (x : ℕ). bit_and x b) (lt-one ha))
+bits_and_is (suc n) a b ha hb =
+    ap₂ (λ (x y : ℕ). x + 2 * y) (and_digit (a % 2) (b % 2) (mod-lt a (zero-lt-suc 1)) (mod-lt b (zero-lt-suc 1))) (bits_and_is n (a / 2) (b / 2) (half_lt n ha) (half_lt n hb))
     ∙ (let s : bit_and a b ≡ bit_and (a / 2) (b / 2) * 2 + min (a % 2) (b % 2) = and_step a b in omega arith)
 
-pub bit_xor_is : (n a b : ℕ) → a < 2 ^ n → b < 2 ^ n → bit_xor n a b ≡ bit_xor a b
-unfolding bit_xor
-bit_xor_is zero a b ha hb = sym (ap₂ bit_xor (lt-one ha) (lt-one hb))
-bit_xor_is (suc n) a b ha hb =
-    ap₂ (λ (x y : ℕ). x + 2 * y) (xor_digit (a % 2) (b % 2) (mod-lt a (zero-lt-suc 1)) (mod-lt b (zero-lt-suc 1))) (bit_xor_is n (a / 2) (b / 2) (half_lt n ha) (half_lt n hb))
+pub bits_xor_is : (n a b : ℕ) → a < 2 ^ n → b < 2 ^ n → bits_xor n a b ≡ bit_xor a b
+unfolding bits_xor
+bits_xor_is zero a b ha hb = sym (ap₂ bit_xor (lt-one ha) (lt-one hb))
+bits_xor_is (suc n) a b ha hb =
+    ap₂ (λ (x y : ℕ). x + 2 * y) (xor_digit (a % 2) (b % 2) (mod-lt a (zero-lt-suc 1)) (mod-lt b (zero-lt-suc 1))) (bits_xor_is n (a / 2) (b / 2) (half_lt n ha) (half_lt n hb))
     ∙ (let s : bit_xor a b ≡ bit_xor (a / 2) (b / 2) * 2 + differ (a % 2) (b % 2) = xor_step a b in omega arith)
 
 -- what an exclusive or of n bits gives has n bits, whatever was put in
@@ -63,12 +63,12 @@ unfolding pick
 digit_lt true = omega arith
 digit_lt false = omega arith
 
-pub bit_xor_lt : (n a b : ℕ) → bit_xor n a b < 2 ^ n
-unfolding bit_xor
-bit_xor_lt zero a b = omega arith
-bit_xor_lt (suc n) a b =
+pub bits_xor_lt : (n a b : ℕ) → bits_xor n a b < 2 ^ n
+unfolding bits_xor
+bits_xor_lt zero a b = omega arith
+bits_xor_lt (suc n) a b =
     let d : pick (eqb (a % 2) (b % 2)) 0 1 < 2 = digit_lt (eqb (a % 2) (b % 2)) in
-    let h : bit_xor n (a / 2) (b / 2) < 2 ^ n = bit_xor_lt n (a / 2) (b / 2) in
+    let h : bits_xor n (a / 2) (b / 2) < 2 ^ n = bits_xor_lt n (a / 2) (b / 2) in
     omega (arith, pow-suc 2 n)
 
 -- a rotation to the right at a width of j + n bits: the n low bits go to the top
@@ -85,14 +85,14 @@ pub shifted : (n a : ℕ) → a / 2 ^ n ≡ a / pow2 n
 shifted n a = sym (ap (λ (x : ℕ). a / x) (pow2_is n))
 
 -- the same at any width w, from the code's operators to the definitions
-pub xor2 : (w : ℕ) {a b x y : ℕ} → a ≡ x → b ≡ y → a < 2 ^ w → b < 2 ^ w → bit_xor a b ≡ bit_xor w x y
-xor2 w {a} {b} p q ha hb = sym (bit_xor_is w a b ha hb) ∙ ap₂ (λ (m n : ℕ). bit_xor w m n) p q
+pub xor2 : (w : ℕ) {a b x y : ℕ} → a ≡ x → b ≡ y → a < 2 ^ w → b < 2 ^ w → bit_xor a b ≡ bits_xor w x y
+xor2 w {a} {b} p q ha hb = sym (bits_xor_is w a b ha hb) ∙ ap₂ (λ (m n : ℕ). bits_xor w m n) p q
 
-pub xor3 : (w : ℕ) {a b c x y z : ℕ} → a ≡ x → b ≡ y → c ≡ z → a < 2 ^ w → b < 2 ^ w → c < 2 ^ w → bit_xor (bit_xor a b) c ≡ bit_xor w (bit_xor w x y) z
+pub xor3 : (w : ℕ) {a b c x y z : ℕ} → a ≡ x → b ≡ y → c ≡ z → a < 2 ^ w → b < 2 ^ w → c < 2 ^ w → bit_xor (bit_xor a b) c ≡ bits_xor w (bits_xor w x y) z
 xor3 w {a} {b} p q r ha hb hc = xor2 w (xor2 w p q ha hb) r (xor_lt w a b ha hb) hc
 
-pub and2 : (w : ℕ) (a b : ℕ) → a < 2 ^ w → b < 2 ^ w → bit_and a b ≡ bit_and w a b
-and2 w a b ha hb = sym (bit_and_is w a b ha hb)
+pub and2 : (w : ℕ) (a b : ℕ) → a < 2 ^ w → b < 2 ^ w → bit_and a b ≡ bits_and w a b
+and2 w a b ha hb = sym (bits_and_is w a b ha hb)
 
 -- the same mask twice
 abbrev apart : ℕ → ℕ → ℕ
@@ -116,16 +116,16 @@ apart_twice zero (suc (suc y)) hx hy = omega arith
 apart_twice (suc zero) (suc (suc y)) hx hy = omega arith
 apart_twice (suc (suc x)) y hx hy = omega arith
 
-pub bit_xor_twice : (n a k : ℕ) → a < 2 ^ n → bit_xor n (bit_xor n a k) k ≡ a
-unfolding bit_xor
-bit_xor_twice zero a k h = omega arith
-bit_xor_twice (suc n) a k h =
+pub bits_xor_twice : (n a k : ℕ) → a < 2 ^ n → bits_xor n (bits_xor n a k) k ≡ a
+unfolding bits_xor
+bits_xor_twice zero a k h = omega arith
+bits_xor_twice (suc n) a k h =
     let d : ℕ = apart (a % 2) (k % 2) in
-    let r : ℕ = bit_xor n (a / 2) (k / 2) in
+    let r : ℕ = bits_xor n (a / 2) (k / 2) in
     let hd : d < 2 = apart_lt (a % 2) (k % 2) in
     let hr : a / 2 < 2 ^ n = omega (arith, pow-suc 2 n) in
     let e : (d + 2 * r) % 2 ≡ d = omega arith in
     let f : (d + 2 * r) / 2 ≡ r = omega arith in
     let g : apart d (k % 2) ≡ a % 2 = apart_twice (a % 2) (k % 2) (omega arith) (omega arith) in
-    let i : bit_xor n r (k / 2) ≡ a / 2 = bit_xor_twice n (a / 2) (k / 2) hr in
-    ap₂ (λ x y. apart x (k % 2) + 2 * bit_xor n y (k / 2)) e f ∙ (ap₂ (λ x y. x + 2 * y) g i ∙ omega arith)
+    let i : bits_xor n r (k / 2) ≡ a / 2 = bits_xor_twice n (a / 2) (k / 2) hr in
+    ap₂ (λ x y. apart x (k % 2) + 2 * bits_xor n y (k / 2)) e f ∙ (ap₂ (λ x y. x + 2 * y) g i ∙ omega arith)

@@ -7,14 +7,14 @@ pick true a b = a
 pick false a b = b
 
 -- and of the n low bits
-unfoldable pub bit_and : ℕ → ℕ → ℕ → ℕ
-bit_and zero a b = 0
-bit_and (suc n) a b = pick (a % 2 == 1 && b % 2 == 1) 1 0 + 2 * bit_and n (a / 2) (b / 2)
+unfoldable pub bits_and : ℕ → ℕ → ℕ → ℕ
+bits_and zero a b = 0
+bits_and (suc n) a b = pick (a % 2 == 1 && b % 2 == 1) 1 0 + 2 * bits_and n (a / 2) (b / 2)
 
 -- exclusive or of the n low bits
-unfoldable pub bit_xor : ℕ → ℕ → ℕ → ℕ
-bit_xor zero a b = 0
-bit_xor (suc n) a b = pick (a % 2 == b % 2) 0 1 + 2 * bit_xor n (a / 2) (b / 2)
+unfoldable pub bits_xor : ℕ → ℕ → ℕ → ℕ
+bits_xor zero a b = 0
+bits_xor (suc n) a b = pick (a % 2 == b % 2) 0 1 + 2 * bits_xor n (a / 2) (b / 2)
 
 unfoldable pub pow2 : ℕ → ℕ
 pow2 zero = 1

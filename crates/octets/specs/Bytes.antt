@@ -1,6 +1,6 @@
 -- Byte strings as lists of numbers, and numbers as byte strings, the high byte first. These are definitions: they assume nothing.
 use Rattle.std.specs.Prelude.{ℕ, zero, suc, ◌+◌, ◌*◌, ◌/◌, ◌%◌, Bool, true, false, ◌&&◌, ◌||◌, List, [], ◌∷◌, ◌++◌, ◌==◌, nat_lt}
-use Rattle.octets.specs.Bits.{bit_xor}
+use Rattle.octets.specs.Bits.{bits_xor}
 
 -- every number is a byte
 unfoldable pub all_bytes : List ℕ → Bool
@@ -47,7 +47,7 @@ reversed (x ∷ xs) = reversed xs ++ (x ∷ [])
 unfoldable pub xor_bytes : List ℕ → List ℕ → List ℕ
 xor_bytes [] ys = []
 xor_bytes (x ∷ xs) [] = []
-xor_bytes (x ∷ xs) (y ∷ ys) = bit_xor 8 x y ∷ xor_bytes xs ys
+xor_bytes (x ∷ xs) (y ∷ ys) = bits_xor 8 x y ∷ xor_bytes xs ys
 
 -- a number in k bytes, the high one first, and back
 unfoldable pub to_bytes : ℕ → ℕ → List ℕ

@@ -2,6 +2,8 @@
 // Cutting bytes and big-endian numbers off the front of lent bytes, writing them into the middle of
 // others, comparing and clearing. Every call says exactly what it gives and leaves, and takes
 // whatever it is handed: where bytes lack or do not fit, the answer is None and nothing changes.
+#![tactic(auto)]
+
 mod compare;
 mod read;
 mod write;

@@ -1,4 +1,6 @@
 // Opens a file: the text stands under a name of its own until it is whole and checked, and then takes OUTPUT's place.
+#![tactic(auto)]
+
 mod context;
 mod escaped;
 mod message;

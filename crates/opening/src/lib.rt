@@ -1,6 +1,8 @@
 // Messages opened: whole ones in memory, and frame by frame. A message opens only with the key that it was sealed with, and only as it
 // was sealed; the contract of `open` says so. Nothing of a frame is written before its tag was right, and after a refusal the lent bytes
 // are zeros.
+#![tactic(auto)]
+
 mod frames;
 pub mod joined;
 mod message;

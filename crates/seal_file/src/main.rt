@@ -1,4 +1,6 @@
 // Seals a file: the message stands under a name of its own until it is whole, and then takes OUTPUT's place.
+#![tactic(auto)]
+
 mod inputs;
 mod message;
 

@@ -1,6 +1,8 @@
 // Sealing: a request's whole message into lent bytes, or the same message frame by frame.
 // The first refusal that applies is told, in the order 2, 3, 4, 5, 1, and then the lent bytes are as they were; otherwise they
 // hold the message. What a sealer wrote call by call, joined, is that message too.
+#![tactic(auto)]
+
 mod joined;
 mod keys;
 mod message;

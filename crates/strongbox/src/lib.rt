@@ -1,6 +1,8 @@
 // Strongbox: messages sealed and opened again. This is the library that programs use; it needs no memory but what is lent to it.
 // The contracts of `seal`, `read_header` and `open` are the promise: each answers what the definitions of the format say, nothing
 // is given out of a message that isn't whole, and what opens was sealed.
+#![tactic(auto)]
+
 mod calls;
 mod promise;
 

@@ -1,4 +1,6 @@
 // Public test vectors and known messages, run against the library: one line a file, with how many cases came out as expected.
+#![tactic(auto)]
+
 mod ciphers;
 mod hashes;
 mod messages;

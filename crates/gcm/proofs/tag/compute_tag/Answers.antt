@@ -1,5 +1,5 @@
 use Rattle.std.proofs.Common.{◌≡◌, ℕ, ◌*◌, ◌/◌, List, ◌++◌, length, ap, ◌∙◌, ap₂, arith, length-append}
-use Rattle.octets.specs.Bits.{bit_xor}
+use Rattle.octets.specs.Bits.{bits_xor}
 use Rattle.octets.specs.Bytes.{xor_bytes, to_bytes}
 use Rattle.octets.proofs.Numbers.{length-to_bytes}
 use Rattle.aes256.specs.Aes.{aes, round_keys}
@@ -23,7 +23,7 @@ returns c =
     let m : List ℕ = zero_padded aad ++ (zero_padded cipher ++ l) in
     let b = c.hash-padded-b.ensures.value ∙ ap (λ k. ghash (length (zero_padded cipher) / 16) h k (zero_padded cipher)) c.hash-padded-a.ensures.value in
     let s : value c.hash-block.result ≡ ghash (length m / 16) h 0 m =
-    c.hash-block.ensures.value ∙ (ap₂ (λ p q. product (bit_xor 128 p q) h) b (lengths_block (length aad) (length cipher)) ∙ three_parts h aad cipher l ll) in
+    c.hash-block.ensures.value ∙ (ap₂ (λ p q. product (bits_xor 128 p q) h) b (lengths_block (length aad) (length cipher)) ∙ three_parts h aad cipher l ll) in
     c.xor16.ensures
     ∙ ap₂ (λ p q. xor_bytes p q) (c.to-bytes-hash.ensures.value ∙ ap (λ k. to_bytes 16 k) (s ∙ ap (λ k. ghash (length m / 16) k 0 m) key.matching))
     (c.encrypt-block-mask.ensures.value ∙ ap (λ k. aes (round_keys (key_of key)) k) c.counter_block.ensures)

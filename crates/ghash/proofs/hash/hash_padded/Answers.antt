@@ -1,6 +1,6 @@
 use Rattle.std.proofs.Common.{◌*◌, ◌/◌, length, ap, ◌∙◌}
 use Rattle.std.proofs.lemmas.List.{take_rest}
-use Rattle.octets.specs.Bits.{bit_xor}
+use Rattle.octets.specs.Bits.{bits_xor}
 use Rattle.ghash.specs.Field.{product}
 use Rattle.ghash.specs.Element.{value}
 use Rattle.ghash.specs.Table.{hash_key_of}
@@ -19,6 +19,6 @@ returns c =
     record {
       value =
           c.hash-block.ensures.value
-          ∙ (ap (λ k. product (bit_xor 128 a k) h) c.from-bytes.ensures.value
+          ∙ (ap (λ k. product (bits_xor 128 a k) h) c.from-bytes.ensures.value
           ∙ padded_last s _ c.filled-last.result h (value c.args.state) a c.if-whole-bytes.false (take_rest s (length s / 16 * 16)) c.filled-last.ensures c.hash-whole-s.ensures);
     }

@@ -1,6 +1,6 @@
 use Rattle.std.proofs.Common.{◌*◌, ◌/◌, length, ap, ◌∙◌, ap₂}
 use native.Mathlib.Nat.{sub-zero}
-use Rattle.octets.specs.Bits.{bit_xor}
+use Rattle.octets.specs.Bits.{bits_xor}
 use Rattle.octets.specs.Bytes.{drop}
 use Rattle.octets.proofs.Lists.{drop_is}
 use Rattle.ghash.specs.Ghash.{ghash}
@@ -20,7 +20,7 @@ loop-i-preserved c =
     let h = hash_key_of c.args.table.now in
     let s = c.args.bytes.now in
     ghash_turn (length s / 16) c.loop-i.i h (value c.loop-i.s) (value c.hash-block-s.result) _ s c.loop-i-test.true
-    (c.hash-block-s.ensures.value ∙ ap (λ k. product (bit_xor 128 (value c.loop-i.s) k) h) c.element-at.ensures) c.loop-i.invariant
+    (c.hash-block-s.ensures.value ∙ ap (λ k. product (bits_xor 128 (value c.loop-i.s) k) h) c.element-at.ensures) c.loop-i.invariant
 
 pub returns : goal.returns
 returns c =

@@ -6,4 +6,4 @@ pub returns-then-bytes-n : goal.returns-then-bytes-n
 returns-then-bytes-n c = record { value = cut_none c.args.n c.args.bytes.now (omega arith) }
 
 pub returns : goal.returns
-returns c = record { value = cut_some c.args.n c.args.bytes.now _ _ (omega arith) c.split-at.ensures.front c.split-at.ensures.back }
+returns c = record { value = cut_some c.args.n c.args.bytes.now _ _ (omega arith) c.split_at.ensures.front c.split_at.ensures.back }

@@ -8,4 +8,4 @@ pub returns-then-bytes-lt2 : goal.returns-then-bytes-lt2
 returns-then-bytes-lt2 c = record { value = number_cut_none 2 c.args.bytes.now (omega arith) }
 
 pub returns : goal.returns
-returns c = record { value = number_cut_some 2 c.args.bytes.now _ _ (omega arith) (c.from-be-bytes-n.ensures ∙ of_first_2 c.args.bytes.now (omega arith)) (take_rest c.args.bytes.now 2) }
+returns c = record { value = number_cut_some 2 c.args.bytes.now _ _ (omega arith) (c.from_be_bytes-n.ensures ∙ of_first_2 c.args.bytes.now (omega arith)) (take_rest c.args.bytes.now 2) }

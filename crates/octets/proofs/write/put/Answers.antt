@@ -7,6 +7,6 @@ returns c = record {
   value = record {
     room = omega arith;
     next = refl;
-    holds = spliced_mid c.args.at _ c.args.out.now _ c.args.bytes.now c.copy-from-slice.ensures.after (omega arith);
+    holds = spliced_mid c.args.at _ c.args.out.now _ c.args.bytes.now c.copy_from_slice.ensures.after (omega arith);
   };
 }
