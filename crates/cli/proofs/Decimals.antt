@@ -1,8 +1,7 @@
 -- Decimal digits are read from the left: what one more digit, one too many, or a byte that is none, does to the whole.
-use Rattle.std.proofs.Common.{◌≡◌, ℕ, ◌+◌, ◌-◌, ◌*◌, ◌<◌, ◌≤◌, Bool, true, false, cond, ◌&&◌, leb, ◌⊎◌, List, [], ◌∷◌, length, get_or, drop, Ok, Err, Result, sym, refl, inl, inr, ⊎_elim, arith}
+use Rattle.std.proofs.Common.{◌≡◌, ℕ, ◌+◌, ◌-◌, ◌*◌, ◌<◌, ◌≤◌, true, false, leb, ◌⊎◌, List, length, get_or, drop, Ok, Err, refl, ⊎_elim}
 use Rattle.std.proofs.lemmas.List.{drop_more, drop_all}
 use Rattle.std.proofs.lemmas.Bool.{le-leb, lt-leb, and_left, and_right, and_from}
-use Rattle.cli.specs.declared.number.NumberError.{NumberError}
 use Rattle.cli.specs.declared.number.NumberError.TheVariants.{NoDigits, OutOfRange}
 use Rattle.cli.specs.Hex.{between}
 use Rattle.cli.specs.Number.{digits_on}

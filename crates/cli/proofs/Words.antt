@@ -1,5 +1,5 @@
 -- The words of a command line are taken from the left: what one word is for, and what one more does to the whole.
-use Rattle.std.proofs.Common.{◌≡◌, ℕ, zero, suc, ◌+◌, ◌<◌, ◌≤◌, Bool, true, false, cond, eqb, List, [], ◌∷◌, ◌++◌, map, length, get_or, drop, Some, None, Ok, Err, string_bytes, codes, Option, Result, String, sym, refl, ap, ◌∙◌, ⊎_elim, append_assoc, append-nil, arith}
+use Rattle.std.proofs.Common.{◌≡◌, ℕ, zero, suc, ◌+◌, ◌<◌, ◌≤◌, false, eqb, List, [], ◌∷◌, ◌++◌, map, length, get_or, drop, Some, None, Ok, Err, string_bytes, codes, Option, Result, String, sym, refl, ap, ◌∙◌, ⊎_elim, append_assoc, append-nil}
 use Rattle.std.proofs.lemmas.Slice.Eq.{bytes_eq-Decides}
 use Rattle.std.proofs.lemmas.List.{drop_more, drop_all, map_push, at_drop_more, at_drop_all}
 use Rattle.std.proofs.lemmas.Bool.{cases_Bool, ne_eqb, eq-eqb, cond-true, cond-false}
@@ -13,7 +13,7 @@ use Rattle.cli.specs.declared.scan.Expects.TheVariants as expects
 use Rattle.cli.specs.declared.scan.Expects.TheVariants.{Word, ValueOf}
 use Rattle.cli.specs.declared.scan.Step.{Step}
 use Rattle.cli.specs.declared.scan.Given.{Given}
-use Rattle.cli.specs.Options.{option_of, takes, takes_value}
+use Rattle.cli.specs.Options.{option_of}
 use Rattle.cli.specs.Scan.{Item, Fault, unknown, no_value, item, item_before, at_end, go_on, step_of, word_step, option_step, scan_from, words_of, rank, texts}
 
 pub not_same : (xs ys : List ℕ) → (xs ≡ ys → ⊥) → bytes_eq xs ys ≡ false

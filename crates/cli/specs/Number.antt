@@ -1,5 +1,5 @@
 -- Numbers as decimal digits, within bounds. These are definitions: they assume nothing.
-use Rattle.std.specs.Prelude.{ℕ, ◌+◌, ◌-◌, ◌*◌, Bool, cond, List, [], ◌∷◌, Ok, Err, Result, nat_le}
+use Rattle.std.specs.Prelude.{ℕ, ◌+◌, ◌-◌, ◌*◌, cond, List, [], ◌∷◌, Ok, Err, Result, nat_le}
 use Rattle.cli.specs.declared.number.NumberError.{NumberError}
 use Rattle.cli.specs.declared.number.NumberError.TheVariants.{NoDigits, OutOfRange}
 use Rattle.cli.specs.Hex.{between}

@@ -1,5 +1,5 @@
 -- The words of a command line, each with what it is for. These are definitions: they assume nothing.
-use Rattle.std.specs.Prelude.{◌≡◌, ℕ, Bool, true, false, cond, List, [], ◌∷◌, map, Some, None, Ok, Err, vec_items, string_bytes, codes, Option, Result, Vec, String, ◌==◌, slice_index}
+use Rattle.std.specs.Prelude.{◌≡◌, ℕ, cond, List, [], ◌∷◌, map, Some, None, Ok, Err, vec_items, string_bytes, codes, Option, Result, Vec, String, ◌==◌, slice_index}
 use Rattle.std.specs.Borrow.{Bor}
 use Rattle.std.specs.Str.{bytes_eq}
 use Rattle.cli.specs.declared.options.Program.{Program}

@@ -1,5 +1,5 @@
 -- The product distributes over sums, has a one, commutes and is associative.
-use Rattle.std.proofs.Common.{◌≡◌, ℕ, zero, suc, ◌+◌, ◌-◌, ◌*◌, ◌/◌, ◌%◌, ◌^◌, ◌<◌, Bool, true, false, eqb, sym, refl, ap, ◌∙◌, ap₂, mod-lt, mod-eq_of_lt, pow-suc, arith, pow_pos}
+use Rattle.std.proofs.Common.{◌≡◌, ℕ, zero, suc, ◌+◌, ◌*◌, ◌/◌, ◌%◌, ◌^◌, ◌<◌, Bool, true, false, eqb, sym, refl, ap, ◌∙◌, ap₂, mod-lt, mod-eq_of_lt, pow-suc, arith, pow_pos}
 use native.Mathlib.Nat.{mod-one}
 use lib.Bits.{bit_xor, xor_zero_r, xor_assoc, xor_self, xor_shifted}
 use lib.Pow.{pow-lt, mod-pow-add}

@@ -1,5 +1,5 @@
 -- The product by runs of the first factor's bits, for tables.
-use Rattle.std.proofs.Common.{◌≡◌, ℕ, zero, suc, ◌+◌, ◌-◌, ◌*◌, ◌/◌, ◌%◌, ◌^◌, ◌<◌, eqb, sym, refl, ap, ◌∙◌, ap₂, add_comm, arith, shr-shr}
+use Rattle.std.proofs.Common.{◌≡◌, ℕ, zero, suc, ◌+◌, ◌*◌, ◌/◌, ◌%◌, ◌^◌, ◌<◌, eqb, sym, refl, ap, ◌∙◌, ap₂, add_comm, arith, shr-shr}
 use lib.Pow.{field, mod-mod-pow}
 use Rattle.octets.specs.Bits.{pick, bits_xor}
 use Rattle.ghash.specs.Field.{product_steps}

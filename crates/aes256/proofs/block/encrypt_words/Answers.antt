@@ -15,7 +15,7 @@ loop-i-preserved c =
     let e : 14 - i ≡ suc n = omega arith in
     let f : 4 * (i + 1) ≡ 4 * i + 4 = omega arith in
     ap₂ (λ (j : ℕ) (t : List ℕ). cipher_rounds n (words_bytes (drop j ks)) t) f
-    (c.round-next.ensures ∙ ap (λ (k : List ℕ). xor_bytes (mix_columns 4 (shift_rows (sub_bytes s))) (words_bytes k)) c.round-key-in-loop-i.ensures)
+    (c.round-next.ensures ∙ ap (λ (k : List ℕ). xor_bytes (mix_columns 4 (shift_rows (sub_bytes s))) (words_bytes k)) c.round_key-in-loop-i.ensures)
     ∙ sym (rounds_more ks n (4 * i) s (omega arith))
     ∙ ap (λ (m : ℕ). cipher_rounds m (words_bytes (drop (4 * i) ks)) s) (sym e)
     ∙ c.loop-i.invariant
@@ -28,10 +28,10 @@ returns c =
     let l : length ks ≡ 60 = search rules in
     let b : length c.args.block ≡ 16 = search rules in
     let e : i ≡ 14 = omega arith in
-    c.store.ensures ∙ c.last-round.ensures
-    ∙ ap (λ (k : List ℕ). xor_bytes (shift_rows (sub_bytes s)) (words_bytes k)) c.round-key-2.ensures
+    c.store.ensures ∙ c.last_round.ensures
+    ∙ ap (λ (k : List ℕ). xor_bytes (shift_rows (sub_bytes s)) (words_bytes k)) c.round_key-2.ensures
     ∙ sym (rounds_last ks 56 s (omega arith))
     ∙ ap (λ (m : ℕ). cipher_rounds (14 - m) (words_bytes (drop (4 * m) ks)) s) (sym e)
     ∙ c.loop-i.invariant
-    ∙ ap (λ (t : List ℕ). cipher_rounds 13 (words_bytes (drop 4 ks)) t) (c.load-s.ensures ∙ ap (λ (k : List ℕ). xor_bytes c.args.block (words_bytes k)) c.round-key.ensures)
+    ∙ ap (λ (t : List ℕ). cipher_rounds 13 (words_bytes (drop 4 ks)) t) (c.load-s.ensures ∙ ap (λ (k : List ℕ). xor_bytes c.args.block (words_bytes k)) c.round_key.ensures)
     ∙ sym (rounds_all ks c.args.block (omega arith) b)

@@ -11,6 +11,6 @@ unfolding words_bytes part
 returns c =
     let s : List ℕ = c.args.s in
     let l : length s ≡ 4 = search rules in
-    ap₂ (λ (x y : List ℕ). part x ++ y) c.to-be-bytes.ensures (ap₂ (λ (x y : List ℕ). part x ++ y) c.to-be-bytes-2.ensures
-    (ap₂ (λ (x y : List ℕ). part x ++ y) c.to-be-bytes-3.ensures (ap part c.to-be-bytes-4.ensures)))
+    ap₂ (λ (x y : List ℕ). part x ++ y) c.to_be_bytes.ensures (ap₂ (λ (x y : List ℕ). part x ++ y) c.to_be_bytes-2.ensures
+    (ap₂ (λ (x y : List ℕ). part x ++ y) c.to_be_bytes-3.ensures (ap part c.to_be_bytes-4.ensures)))
     ∙ sym (ap words_bytes (all_four s l))

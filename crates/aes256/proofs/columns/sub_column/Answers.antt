@@ -9,4 +9,4 @@ unfolding sub_word
 returns c =
     let top : c.args.a / 16777216 ≡ c.args.a / 16777216 % 256 = omega arith in
     let one : c.sub_byte.result ≡ sub_byte (c.args.a / 16777216 % 256) = c.sub_byte.ensures ∙ ap sub_byte top in
-    ap (λ (n : ℕ). bit_xor n c.args.k) (omega (arith, c.from-be-bytes-r.ensures))
+    ap (λ (n : ℕ). bit_xor n c.args.k) (omega (arith, c.from_be_bytes-r.ensures))

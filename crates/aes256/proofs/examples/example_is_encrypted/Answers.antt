@@ -9,5 +9,5 @@ unfolding example_key example_plaintext
 returns c =
     record {
       definition = example_printed;
-      value = c.encrypt-block.ensures.value ∙ ap (λ (k : List ℕ). aes (round_keys k) example_plaintext) c.expand-key-keys.ensures.value ∙ example_printed;
+      value = c.encrypt_block.ensures.value ∙ ap (λ (k : List ℕ). aes (round_keys k) example_plaintext) c.expand_key-keys.ensures.value ∙ example_printed;
     }

@@ -5,4 +5,4 @@ use Rattle.aes256.proofs.schedule.expand_key.Goals as goal
 
 pub returns : goal.returns
 unfolding key_of
-returns c = record { value = ap words_bytes c.expand-words-words.ensures.0 ∙ c.first-words.ensures }
+returns c = record { value = ap words_bytes c.expand_words-words.ensures.0 ∙ c.first_words.ensures }

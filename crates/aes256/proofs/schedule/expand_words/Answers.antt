@@ -13,13 +13,13 @@ loop-i-init c = (search rules, refl, refl)
 pub loop-i-preserved : goal.loop-i-preserved
 loop-i-preserved c =
     let i : ℕ = c.loop-i.i in let w : List ℕ = c.loop-i.w in
-    let v : ℕ = c.next-word.result in
+    let v : ℕ = c.next_word.result in
     let n : ℕ = 60 - (i + 1) in
     let e : 60 - i ≡ suc n = omega arith in
     let lw : length w ≡ 60 = c.loop-i.invariant.0 in (
       length-set w i v ∙ lw,
       take-set-le 8 w i v (omega arith) ∙ c.loop-i.invariant.1,
-      ap (expand_words n (i + 1)) (upto_set w i v (omega arith) ∙ ap (λ (x : List ℕ). x ∷ words_upto w i) c.next-word.ensures)
+      ap (expand_words n (i + 1)) (upto_set w i v (omega arith) ∙ ap (λ (x : List ℕ). x ∷ words_upto w i) c.next_word.ensures)
           ∙ sym (expand_more n w i (omega arith))
           ∙ ap (λ (m : ℕ). expand_words m i (words_upto w i)) (sym e)
           ∙ c.loop-i.invariant.2,

@@ -13,11 +13,11 @@ pub loop-i-preserved : goal.loop-i-preserved
 unfolding words_bytes
 loop-i-preserved c =
     let i : ℕ = c.loop-i.i in let w : List ℕ = c.loop-i.w in let k : List ℕ = c.args.key.now in
-    let v : ℕ = c.key-word.result in
+    let v : ℕ = c.key_word.result in
     let l : length k ≡ 32 = search rules in
     let lw : length w ≡ 60 = c.loop-i.invariant.0 in
     let f : 4 * (i + 1) ≡ 4 * i + 4 = omega arith in
-    let new : word_bytes v ≡ with_four k (4 * i) [] = ap word_bytes c.key-word.ensures
+    let new : word_bytes v ≡ with_four k (4 * i) [] = ap word_bytes c.key_word.ensures
     ∙ bytes_of_word (get_or k (4 * i) 0) (get_or k (4 * i + 1) 0) (get_or k (4 * i + 2) 0) (get_or k (4 * i + 3) 0)
     (c.fits-key (4 * i)) (c.fits-key (4 * i + 1)) (c.fits-key (4 * i + 2)) (c.fits-key (4 * i + 3)) in (
       length-set w i v ∙ lw,

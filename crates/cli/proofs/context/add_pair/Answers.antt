@@ -12,21 +12,21 @@ returns-then-equal c =
     record {
       value = (
         pair_twice c.args.pair (vec_items c.args.pairs.now) c.place-at.result c.index.result.now
-            (c.place-at.ensures.value ∙ ap (λ ps. place_of c.args.pair.name.now (map pair_of ps)) c.as-slice.ensures.value) within
-            (ap₂ bytes_eq (sym (ap (λ p. p.name.now) c.index.ensures) ∙ sym c.as-bytes.ensures.value) (sym c.as-bytes-then-at-len.ensures.value) ∙ sym c.if-equal.ensures.value),
+            (c.place-at.ensures.value ∙ ap (λ ps. place_of c.args.pair.name.now (map pair_of ps)) c.as_slice.ensures.value) within
+            (ap₂ bytes_eq (sym (ap (λ p. p.name.now) c.index.ensures) ∙ sym c.as_bytes.ensures.value) (sym c.as_bytes-then-at-len.ensures.value) ∙ sym c.if-equal.ensures.value),
         refl,
       );
     }
 
 pub returns : goal.returns
 returns c =
-    let at = c.place-at.ensures.value ∙ ap (λ ps. place_of c.args.pair.name.now (map pair_of ps)) c.as-slice.ensures.value in
-    let put = c.insert.ensures.items ∙ cond-true _ _ _ (c.is-err.ensures.negation ∙ ap not c.if-is-err.false) in
+    let at = c.place-at.ensures.value ∙ ap (λ ps. place_of c.args.pair.name.now (map pair_of ps)) c.as_slice.ensures.value in
+    let put = c.insert.ensures.items ∙ cond-true _ _ _ (c.is_err.ensures.negation ∙ ap not c.if-is_err.false) in
     let made : with_pair (pair_of c.args.pair) (map pair_of (vec_items c.args.pairs.now)) ≡ Some (map pair_of (vec_items c.insert.new.self)) =
     elim c.if-at-len.branch [
       | then-at-len+else-equal w ↦
           pair_put c.args.pair (vec_items c.args.pairs.now) c.place-at.result w.index.result.now at
-          (λ h. ap₂ bytes_eq (sym (ap (λ p. p.name.now) w.index.ensures) ∙ sym w.as-bytes.ensures.value) (sym w.as-bytes-then-at-len.ensures.value) ∙ sym w.if-equal.ensures.value)
+          (λ h. ap₂ bytes_eq (sym (ap (λ p. p.name.now) w.index.ensures) ∙ sym w.as_bytes.ensures.value) (sym w.as_bytes-then-at-len.ensures.value) ∙ sym w.if-equal.ensures.value)
           ∙ ap (λ ps. Some (map pair_of ps)) (sym put)
       | else-at-len w ↦
           pair_put c.args.pair (vec_items c.args.pairs.now) c.place-at.result c.args.pair at (λ h. absurd (omega (arith, c.args.pairs.now.ok.0))) ∙ ap (λ ps. Some (map pair_of ps)) (sym put)

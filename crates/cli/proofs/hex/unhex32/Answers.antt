@@ -1,23 +1,23 @@
-use Rattle.std.proofs.Common.{◌≡◌, sym, ◌∙◌, arith, length-set}
+use Rattle.std.proofs.Common.{◌∙◌, length-set}
 use Rattle.cli.proofs.Digits.{byte_more, no_high_digit, no_low_digit, all_read, as_32}
 use Rattle.cli.proofs.hex.unhex32.Goals as goal
 
-pub returns-in-err-high : goal.returns-in-err-high
-returns-in-err-high c =
+pub returns-in_err-high : goal.returns-in_err-high
+returns-in_err-high c =
     record {
       value =
-          c.from-residual.ensures
-          ∙ no_high_digit c.args.digits.now _ c.loop-i.i c.if-digits-ne64.false c.loop-i-test.true c.in-err-high.ensures
+          c.from_residual.ensures
+          ∙ no_high_digit c.args.digits.now _ c.loop-i.i c.if-digits-ne64.false c.loop-i-test.true c.in_err-high.ensures
           ∙ c.loop-i.invariant.1
           ∙ as_32 c.args.digits.now c.if-digits-ne64.false;
     }
 
-pub returns-in-err-low : goal.returns-in-err-low
-returns-in-err-low c =
+pub returns-in_err-low : goal.returns-in_err-low
+returns-in_err-low c =
     record {
       value =
-          c.from-residual-in-err-low.ensures
-          ∙ no_low_digit c.args.digits.now _ c.loop-i.i _ c.if-digits-ne64.false c.loop-i-test.true c.in-ok-high.ensures c.in-err-low.ensures
+          c.from_residual-in_err-low.ensures
+          ∙ no_low_digit c.args.digits.now _ c.loop-i.i _ c.if-digits-ne64.false c.loop-i-test.true c.in_ok-high.ensures c.in_err-low.ensures
           ∙ c.loop-i.invariant.1
           ∙ as_32 c.args.digits.now c.if-digits-ne64.false;
     }
@@ -25,7 +25,7 @@ returns-in-err-low c =
 pub loop-i-preserved : goal.loop-i-preserved
 loop-i-preserved c = (
   simp length-set c.loop-i.invariant.0,
-  byte_more c.args.digits.now c.loop-i.bytes c.loop-i.i _ _ c.if-digits-ne64.false c.loop-i.invariant.0 c.loop-i-test.true c.in-ok-high.ensures c.in-ok-low.ensures
+  byte_more c.args.digits.now c.loop-i.bytes c.loop-i.i _ _ c.if-digits-ne64.false c.loop-i.invariant.0 c.loop-i-test.true c.in_ok-high.ensures c.in_ok-low.ensures
       ∙ c.loop-i.invariant.1,
 )
 

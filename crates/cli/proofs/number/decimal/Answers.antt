@@ -1,4 +1,4 @@
-use Rattle.std.proofs.Common.{◌∙◌, inl, inr, arith}
+use Rattle.std.proofs.Common.{◌∙◌, inl, inr}
 use Rattle.cli.proofs.Decimals.{digit_more, digit_too_many, no_digit, digits_end}
 use Rattle.cli.proofs.number.decimal.Goals as goal
 use Rattle.cli.proofs.number.decimal.Goals.{then-b-lt48-via-then-b-lt48, then-b-lt48-via-else-b-lt48+then-b-gt57}

@@ -3,4 +3,4 @@ use Rattle.cli.proofs.Splits.{splits_first}
 use Rattle.cli.proofs.split.split_pair.Goals as goal
 
 pub returns : goal.returns
-returns c = record { value = splits_first 61 c.args.text.now _ (omega arith) c.split-once.ensures.cases }
+returns c = record { value = splits_first 61 c.args.text.now _ (omega arith) c.split_once.ensures.cases }

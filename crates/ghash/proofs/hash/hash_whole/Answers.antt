@@ -19,8 +19,8 @@ pub loop-i-preserved : goal.loop-i-preserved
 loop-i-preserved c =
     let h = hash_key_of c.args.table.now in
     let s = c.args.bytes.now in
-    ghash_turn (length s / 16) c.loop-i.i h (value c.loop-i.s) (value c.hash-block-s.result) _ s c.loop-i-test.true
-    (c.hash-block-s.ensures.value ∙ ap (λ k. product (bits_xor 128 (value c.loop-i.s) k) h) c.element-at.ensures) c.loop-i.invariant
+    ghash_turn (length s / 16) c.loop-i.i h (value c.loop-i.s) (value c.hash_block-s.result) _ s c.loop-i-test.true
+    (c.hash_block-s.ensures.value ∙ ap (λ k. product (bits_xor 128 (value c.loop-i.s) k) h) c.element_at.ensures) c.loop-i.invariant
 
 pub returns : goal.returns
 returns c =

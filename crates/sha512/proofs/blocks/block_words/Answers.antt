@@ -11,9 +11,9 @@ loop-i-init c = (refl, refl)
 pub loop-i-preserved : goal.loop-i-preserved
 loop-i-preserved c =
     let l : c.loop-i.i < length c.loop-i.w = omega arith in (
-      length-set c.loop-i.w c.loop-i.i c.word-at.result ∙ c.loop-i.invariant.0,
-      take_more_set c.loop-i.w c.loop-i.i c.word-at.result l
-          ∙ ap₂ (λ (xs : List ℕ) (x : ℕ). xs ++ (x ∷ [])) c.loop-i.invariant.1 c.word-at.ensures
+      length-set c.loop-i.w c.loop-i.i c.word_at.result ∙ c.loop-i.invariant.0,
+      take_more_set c.loop-i.w c.loop-i.i c.word_at.result l
+          ∙ ap₂ (λ (xs : List ℕ) (x : ℕ). xs ++ (x ∷ [])) c.loop-i.invariant.1 c.word_at.ensures
           ∙ sym (block_words_more c.loop-i.i c.args.block.now),
     )
 

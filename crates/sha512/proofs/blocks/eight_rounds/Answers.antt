@@ -11,11 +11,11 @@ next w s r a b k e h = h ∙ ap (λ (n : ℕ). rounds r (drop n constants) (drop
 pub returns : goal.returns
 returns c =
     let at : ℕ = c.args.at in
-    c.round-at-s1.ensures
-    ∙ next _ _ _ (at + 1) at 2 (omega arith) c.round-at-s2.ensures
-    ∙ next _ _ _ (at + 2) at 3 (omega arith) c.round-at-s3.ensures
-    ∙ next _ _ _ (at + 3) at 4 (omega arith) c.round-at-s4.ensures
-    ∙ next _ _ _ (at + 4) at 5 (omega arith) c.round-at-s5.ensures
-    ∙ next _ _ _ (at + 5) at 6 (omega arith) c.round-at-s6.ensures
-    ∙ next _ _ _ (at + 6) at 7 (omega arith) c.round-at-s7.ensures
-    ∙ next _ _ _ (at + 7) at 8 (omega arith) c.round-at.ensures
+    c.round_at-s1.ensures
+    ∙ next _ _ _ (at + 1) at 2 (omega arith) c.round_at-s2.ensures
+    ∙ next _ _ _ (at + 2) at 3 (omega arith) c.round_at-s3.ensures
+    ∙ next _ _ _ (at + 3) at 4 (omega arith) c.round_at-s4.ensures
+    ∙ next _ _ _ (at + 4) at 5 (omega arith) c.round_at-s5.ensures
+    ∙ next _ _ _ (at + 5) at 6 (omega arith) c.round_at-s6.ensures
+    ∙ next _ _ _ (at + 6) at 7 (omega arith) c.round_at-s7.ensures
+    ∙ next _ _ _ (at + 7) at 8 (omega arith) c.round_at.ensures

@@ -16,4 +16,4 @@ returns c =
     let k : at < length constants = omega (arith, eighty) in
     rounds_more c.args.s constants w at k (omega arith)
     ∙ sym (ap (λ (x : List ℕ). rounds x (drop (at + 1) constants) (drop (at + 1) w))
-    (c.round.ensures ∙ ap (λ (x : ℕ). round c.args.s x (get_or w at 0)) (c.round-constant.ensures ∙ nth_is constants at)))
+    (c.round.ensures ∙ ap (λ (x : ℕ). round c.args.s x (get_or w at 0)) (c.round_constant.ensures ∙ nth_is constants at)))

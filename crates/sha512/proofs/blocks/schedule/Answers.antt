@@ -7,7 +7,7 @@ use Rattle.sha512.proofs.Schedule.{extend_more}
 use Rattle.sha512.proofs.blocks.schedule.Goals as goal
 
 pub loop-t-init : goal.loop-t-init
-loop-t-init c = (search rules, ap (λ (xs : List ℕ). extend_words 64 (reversed xs)) c.block-words-w.ensures)
+loop-t-init c = (search rules, ap (λ (xs : List ℕ). extend_words 64 (reversed xs)) c.block_words-w.ensures)
 
 pub loop-t-preserved : goal.loop-t-preserved
 loop-t-preserved c =

@@ -16,11 +16,11 @@ loop-i-preserved c =
     let i : ℕ = c.loop-i.i in
     let m : length c.args.state ≡ 8 = search rules in
     let l : i < length c.args.state = omega arith in
-    let is : c.copy-from-slice.new.self ≡ to_bytes 8 (get_or c.args.state i 0)
-    = c.copy-from-slice.ensures.after ∙ c.to-be-bytes-word.ensures ∙ sym (to_bytes_8 (get_or c.args.state i 0)) in
-    let k : length c.copy-from-slice.new.self ≡ 8 = search rules in (
+    let is : c.copy_from_slice.new.self ≡ to_bytes 8 (get_or c.args.state i 0)
+    = c.copy_from_slice.ensures.after ∙ c.to_be_bytes-word.ensures ∙ sym (to_bytes_8 (get_or c.args.state i 0)) in
+    let k : length c.copy_from_slice.new.self ≡ 8 = search rules in (
       search (rules, places),
-      take-put_mid (8 * i) (8 * i + 8 - 8 * i) c.loop-i.out c.copy-from-slice.new.self (8 * (i + 1)) (omega arith) (omega arith)
+      take-put_mid (8 * i) (8 * i + 8 - 8 * i) c.loop-i.out c.copy_from_slice.new.self (8 * (i + 1)) (omega arith) (omega arith)
           ∙ ap₂ (λ (x y : List ℕ). x ++ y) c.loop-i.invariant.1 is
           ∙ sym (ap words_bytes (take_more c.args.state i 0 l) ∙ words_bytes_push (take i c.args.state) (get_or c.args.state i 0)),
     )

@@ -4,7 +4,7 @@ use Rattle.sha512.proofs.words.small_sigma0.Goals as goal
 
 pub returns : goal.returns
 returns c =
-    xor3 64 (c.rotate-right.ensures ∙ rotated 63 1 _ c.ranges.a.fits)
-    (c.rotate-right-2.ensures ∙ rotated 56 8 _ c.ranges.a.fits)
+    xor3 64 (c.rotate_right.ensures ∙ rotated 63 1 _ c.ranges.a.fits)
+    (c.rotate_right-2.ensures ∙ rotated 56 8 _ c.ranges.a.fits)
     (shifted 7 _)
-    c.rotate-right.type-inv c.rotate-right-2.type-inv (omega arith)
+    c.rotate_right.type_inv c.rotate_right-2.type_inv (omega arith)

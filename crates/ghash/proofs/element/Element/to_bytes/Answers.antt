@@ -5,6 +5,6 @@ use Rattle.ghash.proofs.element.Element.to_bytes.Goals as goal
 pub returns : goal.returns
 returns c =
     record {
-      value = sixteen_written c.to-be-bytes-h.result c.to-be-bytes-l.result c.args.self.hi c.args.self.lo (omega arith) c.to-be-bytes-h.ensures
-          c.to-be-bytes-l.ensures;
+      value = sixteen_written c.to_be_bytes-h.result c.to_be_bytes-l.result c.args.self.hi c.args.self.lo (omega arith) c.to_be_bytes-h.ensures
+          c.to_be_bytes-l.ensures;
     }

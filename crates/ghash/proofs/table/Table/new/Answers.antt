@@ -12,7 +12,7 @@ pub loop-i-preserved : goal.loop-i-preserved
 loop-i-preserved c =
     let h = value c.args.h in
     let inv = c.loop-i.invariant in (
-      c.times-x-v.ensures ∙ (ap times_x inv.0 ∙ times_power_more c.loop-i.i h),
+      c.times_x-v.ensures ∙ (ap times_x inv.0 ∙ times_power_more c.loop-i.i h),
       row_more c.loop-i.a c.loop-i.b c.loop-i.c c.loop-i.d c.loop-i.i c.split-q.result.a c.split-q.result.b c.split-q.result.c
           c.split-q.result.d (λ k. times_power k h) (omega arith) (omega arith) (omega arith) (omega arith) inv.1 (c.split-q.ensures.number ∙ inv.0),
       length-set _ _ _ ∙ inv.2,
@@ -21,5 +21,5 @@ loop-i-preserved c =
       length-set _ _ _ ∙ inv.5,
     )
 
-pub invariant-of-result : goal.invariant-of-result
-invariant-of-result c = (λ k h. c.loop-i.invariant.1 k (omega arith), tt)
+pub invariant_of-result : goal.invariant_of-result
+invariant_of-result c = record { rows = λ k h. c.loop-i.invariant.1 k (omega arith) }

@@ -12,11 +12,11 @@ returns c =
     record {
       value =
           c.join.ensures
-          ∙ (c.add-rows-sum-d.ensures
+          ∙ (c.add_rows-sum_d.ensures
           ∙ (ap₂ (λ k m. product_steps 32 k (times_power 96 h) m) q.low.1
-          (c.add-rows-sum-c.ensures
+          (c.add_rows-sum_c.ensures
           ∙ ap₂ (λ k m. product_steps 32 k (times_power 64 h) m) q.low.0
-          (c.add-rows-sum-b.ensures
-          ∙ ap₂ (λ k m. product_steps 32 k (times_power 32 h) m) q.high.1 (c.add-rows-sum-a.ensures ∙ ap (λ k. product_steps 32 k (times_power 0 h) 0) q.high.0)))
+          (c.add_rows-sum_b.ensures
+          ∙ ap₂ (λ k m. product_steps 32 k (times_power 32 h) m) q.high.1 (c.add_rows-sum_a.ensures ∙ ap (λ k. product_steps 32 k (times_power 0 h) 0) q.high.0)))
           ∙ product_by_words c.args.x.hi c.args.x.lo h (omega arith) (omega arith)));
     }
