@@ -21,7 +21,7 @@ fn derive_label() -> [u8; 11]
 }
 
 fn commit_label() -> [u8; 9]
-    ensures { result ≡ Keys.commit-label }
+    ensures { result ≡ Keys.commit_label }
 {
     *b"COMMITKEY"
 }

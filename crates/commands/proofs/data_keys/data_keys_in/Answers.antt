@@ -12,7 +12,7 @@ loop-word-init c = ap (λ ws. map some_parts ws ++ map split_data_key (map now_o
 pub loop-word-preserved : goal.loop-word-preserved
 loop-word-preserved c =
     data_key_more c.args.words.now c.loop-word.word-index _ c.in-Some.one (vec_items c.loop-word.all) (vec_items c.push.new.self) c.loop-word-test.true c.in-Some.ensures.value
-    (c.push.ensures.items ∙ cond-true _ _ _ (c.is-err.ensures.negation ∙ ap not c.if-is-err.false))
+    (c.push.ensures.items ∙ cond-true _ _ _ (c.is_err.ensures.negation ∙ ap not c.if-is_err.false))
     ∙ c.loop-word.invariant
 
 pub returns : goal.returns

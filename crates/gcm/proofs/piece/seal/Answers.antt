@@ -11,9 +11,9 @@ returns c =
       value =
           record {
             room = omega arith;
-            ciphertext = c.xor-keystream.ensures;
+            ciphertext = c.xor_keystream.ensures;
             tag_is =
-                c.compute-tag.ensures
-                ∙ ap (λ xs. tag_of (round_keys (key_of c.args.key.now)) c.args.nonce.now c.args.aad.now xs) c.xor-keystream.ensures;
+                c.compute_tag.ensures
+                ∙ ap (λ xs. tag_of (round_keys (key_of c.args.key.now)) c.args.nonce.now c.args.aad.now xs) c.xor_keystream.ensures;
           };
     }

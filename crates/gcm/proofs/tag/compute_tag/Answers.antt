@@ -21,9 +21,9 @@ returns c =
     let l : List ℕ = to_bytes 8 (8 * length aad) ++ to_bytes 8 (8 * length cipher) in
     let ll : length l ≡ 16 = length-append (to_bytes 8 (8 * length aad)) (to_bytes 8 (8 * length cipher)) ∙ omega (arith, length-to_bytes 8 (8 * length aad), length-to_bytes 8 (8 * length cipher)) in
     let m : List ℕ = zero_padded aad ++ (zero_padded cipher ++ l) in
-    let b = c.hash-padded-b.ensures.value ∙ ap (λ k. ghash (length (zero_padded cipher) / 16) h k (zero_padded cipher)) c.hash-padded-a.ensures.value in
-    let s : value c.hash-block.result ≡ ghash (length m / 16) h 0 m =
-    c.hash-block.ensures.value ∙ (ap₂ (λ p q. product (bits_xor 128 p q) h) b (lengths_block (length aad) (length cipher)) ∙ three_parts h aad cipher l ll) in
+    let b = c.hash_padded-b.ensures.value ∙ ap (λ k. ghash (length (zero_padded cipher) / 16) h k (zero_padded cipher)) c.hash_padded-a.ensures.value in
+    let s : value c.hash_block.result ≡ ghash (length m / 16) h 0 m =
+    c.hash_block.ensures.value ∙ (ap₂ (λ p q. product (bits_xor 128 p q) h) b (lengths_block (length aad) (length cipher)) ∙ three_parts h aad cipher l ll) in
     c.xor16.ensures
-    ∙ ap₂ (λ p q. xor_bytes p q) (c.to-bytes-hash.ensures.value ∙ ap (λ k. to_bytes 16 k) (s ∙ ap (λ k. ghash (length m / 16) k 0 m) key.matching))
-    (c.encrypt-block-mask.ensures.value ∙ ap (λ k. aes (round_keys (key_of key)) k) c.counter_block.ensures)
+    ∙ ap₂ (λ p q. xor_bytes p q) (c.to_bytes-hash.ensures.value ∙ ap (λ k. to_bytes 16 k) (s ∙ ap (λ k. ghash (length m / 16) k 0 m) key.matching))
+    (c.encrypt_block-mask.ensures.value ∙ ap (λ k. aes (round_keys (key_of key)) k) c.counter_block.ensures)

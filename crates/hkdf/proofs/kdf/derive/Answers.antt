@@ -10,4 +10,4 @@ unfolding hkdf
 returns c =
     let n : ℕ = length c.args.out.now in
     let block = c.expand-block.ensures ∙ ap (λ (k : List ℕ). hmac k (c.args.info.now ++ (1 ∷ []))) c.hmac-extracted.ensures.value in
-    record { value = (c.if-out-gt-MAX-OUTPUT.false, c.copy-from-slice.ensures.after ∙ ap₂ (λ (k : ℕ) (xs : List ℕ). take k xs) (sub-zero n) block ∙ sym (take_is n _)) }
+    record { value = (c.if-out-gt-MAX_OUTPUT.false, c.copy_from_slice.ensures.after ∙ ap₂ (λ (k : ℕ) (xs : List ℕ). take k xs) (sub-zero n) block ∙ sym (take_is n _)) }

@@ -12,7 +12,7 @@ pub loop-i-preserved : goal.loop-i-preserved
 loop-i-preserved c =
     let m : length c.args.block ≡ 128 = search rules in (
       length-set c.loop-i.out c.loop-i.i _ ∙ c.loop-i.invariant.0,
-      each_xor_more c.args.mask c.loop-i.i c.loop-i.out c.args.block (omega arith) (omega arith) c.ranges.mask.fits c.loop-i-test.element-fits.fits c.loop-i.invariant.1,
+      each_xor_more c.args.mask c.loop-i.i c.loop-i.out c.args.block (omega arith) (omega arith) c.ranges.mask.fits c.loop-i-test.element_fits.fits c.loop-i.invariant.1,
     )
 
 pub returns : goal.returns

@@ -3,10 +3,10 @@ use Rattle.octets.specs.Bytes.{repeat, of_bytes}
 use Rattle.gcm.specs.Key.{key_of}
 use Rattle.gcm.proofs.key.Key.new.Goals as goal
 
-pub invariant-of-result : goal.invariant-of-result
+pub invariant_of-result : goal.invariant_of-result
 unfolding repeat
-invariant-of-result c = (c.new-table.ensures.value ∙ (c.from-bytes.ensures.value ∙ ap (λ xs. of_bytes xs) c.encrypt-block-hash-key.ensures.value), tt)
+invariant_of-result c = record { matching = c.new-table.ensures.value ∙ (c.from_bytes.ensures.value ∙ ap (λ xs. of_bytes xs) c.encrypt_block-hash_key.ensures.value) }
 
 pub returns : goal.returns
 unfolding key_of
-returns c = record { value = c.expand-key-keys.ensures.value }
+returns c = record { value = c.expand_key-keys.ensures.value }
