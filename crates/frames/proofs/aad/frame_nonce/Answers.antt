@@ -3,4 +3,4 @@ use Rattle.frames.proofs.Parts.{twelve_is}
 use Rattle.frames.proofs.aad.frame_nonce.Goals as goal
 
 pub returns : goal.returns
-returns c = record { value = simp c.to-be-bytes.ensures (twelve_is c.args.number (omega arith)) }
+returns c = record { value = simp c.to_be_bytes.ensures (twelve_is c.args.number (omega arith)) }

@@ -5,4 +5,4 @@ use Rattle.frames.proofs.aad.regular_aad.Goals as goal
 
 pub returns : goal.returns
 unfolding regular_label
-returns c = record { value = c.put-aad.ensures ∙ aad_regular c.args.id.now c.args.number c.args.len }
+returns c = record { value = c.put_aad.ensures ∙ aad_regular c.args.id.now c.args.number c.args.len }

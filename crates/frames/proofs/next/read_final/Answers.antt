@@ -13,36 +13,36 @@ after_number size n m bs = guard (eqb m n) (and_then (after_nonce n bs) (λ r. c
 abbrev after_length : ℕ → ℕ → List ℕ → List ReadFrame
 after_length size l bs = guard (leb l size) (body true l bs)
 
-pub returns-in-default : goal.returns-in-default
-returns-in-default c = number_none 4 _ _ c.in-default.ensures.value ∙ final_steps c.args.frame_length c.args.number c.args.bytes.now
+pub returns-in_default : goal.returns-in_default
+returns-in_default c = number_none 4 _ _ c.in_default.ensures.value ∙ final_steps c.args.frame_length c.args.number c.args.bytes.now
 
-pub returns-then-own-number-number : goal.returns-then-own-number-number
-returns-then-own-number-number c =
-    sym (guard_false _ _ (ne_eqb c.in-Some.own-number c.args.number c.if-own-number-number.true))
+pub returns-then-own_number-number : goal.returns-then-own_number-number
+returns-then-own_number-number c =
+    sym (guard_false _ _ (ne_eqb c.in-Some.own_number c.args.number c.if-own_number-number.true))
     ∙ number_some 4 _ _ _ (after_number c.args.frame_length c.args.number) c.in-Some.ensures.value ∙ final_steps c.args.frame_length c.args.number c.args.bytes.now
 
-pub returns-in-default-skip-nonce : goal.returns-in-default-skip-nonce
-returns-in-default-skip-nonce c =
-    and_then_none _ _ c.in-default-skip-nonce.ensures
-    ∙ sym (guard_true _ _ (eq-eqb c.in-Some.own-number c.args.number c.if-own-number-number.false))
+pub returns-in_default-skip_nonce : goal.returns-in_default-skip_nonce
+returns-in_default-skip_nonce c =
+    and_then_none _ _ c.in_default-skip_nonce.ensures
+    ∙ sym (guard_true _ _ (eq-eqb c.in-Some.own_number c.args.number c.if-own_number-number.false))
     ∙ number_some 4 _ _ _ (after_number c.args.frame_length c.args.number) c.in-Some.ensures.value ∙ final_steps c.args.frame_length c.args.number c.args.bytes.now
 
-pub returns-in-default-cut-u32 : goal.returns-in-default-cut-u32
-returns-in-default-cut-u32 c =
-    number_none 4 _ _ c.in-default-cut-u32.ensures.value ∙ and_then_some _ _ _ c.in-Some-skip-nonce.ensures
-    ∙ sym (guard_true _ _ (eq-eqb c.in-Some.own-number c.args.number c.if-own-number-number.false))
+pub returns-in_default-cut_u32 : goal.returns-in_default-cut_u32
+returns-in_default-cut_u32 c =
+    number_none 4 _ _ c.in_default-cut_u32.ensures.value ∙ and_then_some _ _ _ c.in-Some-skip_nonce.ensures
+    ∙ sym (guard_true _ _ (eq-eqb c.in-Some.own_number c.args.number c.if-own_number-number.false))
     ∙ number_some 4 _ _ _ (after_number c.args.frame_length c.args.number) c.in-Some.ensures.value ∙ final_steps c.args.frame_length c.args.number c.args.bytes.now
 
-pub returns-then-len-frame-length : goal.returns-then-len-frame-length
-returns-then-len-frame-length c =
-    sym (guard_false _ _ (lt-leb c.in-Some-cut-u32.len c.args.frame_length c.if-len-frame-length.true))
-    ∙ number_some 4 _ _ _ (after_length c.args.frame_length) c.in-Some-cut-u32.ensures.value ∙ and_then_some _ _ _ c.in-Some-skip-nonce.ensures
-    ∙ sym (guard_true _ _ (eq-eqb c.in-Some.own-number c.args.number c.if-own-number-number.false))
+pub returns-then-len-frame_length : goal.returns-then-len-frame_length
+returns-then-len-frame_length c =
+    sym (guard_false _ _ (lt-leb c.in-Some-cut_u32.len c.args.frame_length c.if-len-frame_length.true))
+    ∙ number_some 4 _ _ _ (after_length c.args.frame_length) c.in-Some-cut_u32.ensures.value ∙ and_then_some _ _ _ c.in-Some-skip_nonce.ensures
+    ∙ sym (guard_true _ _ (eq-eqb c.in-Some.own_number c.args.number c.if-own_number-number.false))
     ∙ number_some 4 _ _ _ (after_number c.args.frame_length c.args.number) c.in-Some.ensures.value ∙ final_steps c.args.frame_length c.args.number c.args.bytes.now
 
 pub returns : goal.returns
 returns c =
-    c.read-body.ensures ∙ sym (guard_true _ _ (le-leb c.in-Some-cut-u32.len c.args.frame_length c.if-len-frame-length.false))
-    ∙ number_some 4 _ _ _ (after_length c.args.frame_length) c.in-Some-cut-u32.ensures.value ∙ and_then_some _ _ _ c.in-Some-skip-nonce.ensures
-    ∙ sym (guard_true _ _ (eq-eqb c.in-Some.own-number c.args.number c.if-own-number-number.false))
+    c.read_body.ensures ∙ sym (guard_true _ _ (le-leb c.in-Some-cut_u32.len c.args.frame_length c.if-len-frame_length.false))
+    ∙ number_some 4 _ _ _ (after_length c.args.frame_length) c.in-Some-cut_u32.ensures.value ∙ and_then_some _ _ _ c.in-Some-skip_nonce.ensures
+    ∙ sym (guard_true _ _ (eq-eqb c.in-Some.own_number c.args.number c.if-own_number-number.false))
     ∙ number_some 4 _ _ _ (after_number c.args.frame_length c.args.number) c.in-Some.ensures.value ∙ final_steps c.args.frame_length c.args.number c.args.bytes.now

@@ -11,8 +11,8 @@ use Rattle.frames.proofs.next.read_frame.Goals as goal
 abbrev after_mark : ℕ → ℕ → ℕ → List ℕ → List ReadFrame
 after_mark size n m bs = pick (eqb m end_marker) (read_final size n bs) (guard (eqb m n && ltb n end_marker) (read_regular size n bs))
 
-pub returns-in-default : goal.returns-in-default
-returns-in-default c = record { value = number_none 4 _ _ c.in-default.ensures.value }
+pub returns-in_default : goal.returns-in_default
+returns-in_default c = record { value = number_none 4 _ _ c.in_default.ensures.value }
 
 pub returns-then-mark : goal.returns-then-mark
 unfolding end_marker

@@ -3,4 +3,4 @@ use Rattle.frames.proofs.Parts.{regular_front_is}
 use Rattle.frames.proofs.seal.regular_front.Goals as goal
 
 pub returns : goal.returns
-returns c = simp c.to-be-bytes.ensures (regular_front_is c.args.number (omega arith))
+returns c = simp c.to_be_bytes.ensures (regular_front_is c.args.number (omega arith))

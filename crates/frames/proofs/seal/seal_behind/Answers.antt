@@ -6,9 +6,9 @@ use Rattle.frames.proofs.seal.seal_behind.Goals as goal
 pub returns : goal.returns
 returns c =
     let w = c.in-Some.ensures.value in
-    let d = behind c.args.out.now c.put.new.out c.args.front.now c.seal-text.new.out _ _ _ _ _ w (omega arith) refl (omega arith) c.seal-text.ensures.fits (omega arith) c.seal-text.ensures.value in
+    let d = behind c.args.out.now c.put.new.out c.args.front.now c.seal_text.new.out _ _ _ _ _ w (omega arith) refl (omega arith) c.seal_text.ensures.fits (omega arith) c.seal_text.ensures.value in
     record {
       fits = d.fits ∙ sym (eq-eqb _ _ (omega arith));
-      long = c.seal-text.ensures.long;
+      long = c.seal_text.ensures.long;
       value = d.holds ∙ sym (cond-true _ _ _ d.fits);
     }

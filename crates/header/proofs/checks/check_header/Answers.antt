@@ -8,47 +8,47 @@ use Rattle.header.proofs.Refusals.{header_passes}
 use Rattle.header.proofs.checks.check_header.Goals as goal
 
 -- `search` closes a refusal once it sees through the definitions that refusals are told by
-pub returns-in-default : goal.returns-in-default
+pub returns-in_default : goal.returns-in_default
 unfolding pick end_marker
-returns-in-default c = search rules
+returns-in_default c = search rules
 
 pub returns-then-header-eq0 : goal.returns-then-header-eq0
 unfolding pick end_marker
 returns-then-header-eq0 c = search rules
 
-pub returns-in-default-check-context : goal.returns-in-default-check-context
+pub returns-in_default-check_context : goal.returns-in_default-check_context
 unfolding pick end_marker
-returns-in-default-check-context c = search rules
+returns-in_default-check_context c = search rules
 
-pub returns-in-default-check-data-keys : goal.returns-in-default-check-data-keys
+pub returns-in_default-check_data_keys : goal.returns-in_default-check_data_keys
 unfolding pick end_marker
-returns-in-default-check-data-keys c = search rules
+returns-in_default-check_data_keys c = search rules
 
-pub context-len-requires : goal.context-len-requires
-context-len-requires c =
-    let t = context_told _ _ c.in-Some-check-context.ensures in
+pub context_len-requires : goal.context_len-requires
+context_len-requires c =
+    let t = context_told _ _ c.in-Some-check_context.ensures in
     record { is = t.long; fits = t.fits }
 
-pub overflow-add-header-len : goal.overflow-add-header-len
-overflow-add-header-len c =
-    let t = context_told _ _ c.in-Some-check-context.ensures in
+pub overflow_add-header_len : goal.overflow_add-header_len
+overflow_add-header_len c =
+    let t = context_told _ _ c.in-Some-check_context.ensures in
     let s = context_short c.args.header.context.now in
     omega (arith, t.long, t.fits)
 
-pub overflow-add-header-len-2 : goal.overflow-add-header-len-2
-overflow-add-header-len-2 c =
-    let t = context_told _ _ c.in-Some-check-context.ensures in
+pub overflow_add-header_len-2 : goal.overflow_add-header_len-2
+overflow_add-header_len-2 c =
+    let t = context_told _ _ c.in-Some-check_context.ensures in
     let s = context_short c.args.header.context.now in
-    omega (arith, t.long, t.fits, (data_keys_told (data_keys c.args.header.encrypted_data_keys.now) _ c.in-Some-check-data-keys.ensures).fits)
+    omega (arith, t.long, t.fits, (data_keys_told (data_keys c.args.header.encrypted_data_keys.now) _ c.in-Some-check_data_keys.ensures).fits)
 
 pub returns : goal.returns
 returns c =
     let i = some_cond _ _ _ c.in-Some.ensures.value in
-    let t = context_told (pairs c.args.header.context.now) _ c.in-Some-check-context.ensures in
-    let d = data_keys_told (data_keys c.args.header.encrypted_data_keys.now) _ c.in-Some-check-data-keys.ensures in
+    let t = context_told (pairs c.args.header.context.now) _ c.in-Some-check_context.ensures in
+    let d = data_keys_told (data_keys c.args.header.encrypted_data_keys.now) _ c.in-Some-check_data_keys.ensures in
     let l = eqb-true _ _ i.0 in
     record {
-      value = header_passes (request_with [] c.args.header []) _ _ l (omega arith) (omega arith) c.in-Some-check-context.ensures c.in-Some-check-data-keys.ensures;
+      value = header_passes (request_with [] c.args.header []) _ _ l (omega arith) (omega arith) c.in-Some-check_context.ensures c.in-Some-check_data_keys.ensures;
       checked = record {
         id = i.1;
         pairs_long = t.long;

@@ -8,49 +8,49 @@ use Rattle.header.proofs.Lengths.{length_header, length-data_keys_model}
 use Rattle.header.proofs.Refusals.{header_passed}
 use Rattle.header.proofs.write.put_header.Goals as goal
 
-pub put-bytes-context-requires : goal.put-bytes-context-requires
-put-bytes-context-requires c =
+pub put_bytes-context-requires : goal.put_bytes-context-requires
+put_bytes-context-requires c =
     let long = length_header (header_with c.args.header c.args.commitment.now) in
-    omega (arith, c.requires.room, c.put-bytes-id.ensures.next)
+    omega (arith, c.requires.room, c.put_bytes-id.ensures.next)
 
-pub put-context-count-requires : goal.put-context-count-requires
-put-context-count-requires c =
+pub put_context-count-requires : goal.put_context-count-requires
+put_context-count-requires c =
     let long = length_header (header_with c.args.header c.args.commitment.now) in
     let p = header_passed (request_with [] c.args.header []) (sym c.requires.passed) in
-    record { room = omega (arith, c.requires.room, c.put-bytes-id.ensures.next, c.put-bytes-context.ensures.next); short = p.short_context; is = c.requires.is; fits = omega (arith, c.requires.is, p.context_fits) }
+    record { room = omega (arith, c.requires.room, c.put_bytes-id.ensures.next, c.put_bytes-context.ensures.next); short = p.short_context; is = c.requires.is; fits = omega (arith, c.requires.is, p.context_fits) }
 
-pub overflow-cast-header : goal.overflow-cast-header
-overflow-cast-header c =
+pub overflow_cast-header : goal.overflow_cast-header
+overflow_cast-header c =
     let p = header_passed (request_with [] c.args.header []) (sym c.requires.passed) in
     omega (arith, p.few_data_keys, length-data_keys_model c.args.header.encrypted_data_keys.now)
 
-pub put-count-first-requires : goal.put-count-first-requires
-put-count-first-requires c =
+pub put_count-first-requires : goal.put_count-first-requires
+put_count-first-requires c =
     let long = length_header (header_with c.args.header c.args.commitment.now) in
-    omega (arith, c.requires.room, c.put-bytes-id.ensures.next, c.put-bytes-context.ensures.next, c.put-context-count.ensures.next)
+    omega (arith, c.requires.room, c.put_bytes-id.ensures.next, c.put_bytes-context.ensures.next, c.put_context-count.ensures.next)
 
-pub put-data-keys-content-type-requires : goal.put-data-keys-content-type-requires
-put-data-keys-content-type-requires c =
+pub put_data_keys-content_type-requires : goal.put_data_keys-content_type-requires
+put_data_keys-content_type-requires c =
     let long = length_header (header_with c.args.header c.args.commitment.now) in
     let p = header_passed (request_with [] c.args.header []) (sym c.requires.passed) in
-    record { room = omega (arith, c.requires.room, c.put-bytes-id.ensures.next, c.put-bytes-context.ensures.next, c.put-context-count.ensures.next, c.put-count-first.ensures.next, length-to_bytes 2 (length c.args.header.encrypted_data_keys.now)); short = p.short_data_keys }
+    record { room = omega (arith, c.requires.room, c.put_bytes-id.ensures.next, c.put_bytes-context.ensures.next, c.put_context-count.ensures.next, c.put_count-first.ensures.next, length-to_bytes 2 (length c.args.header.encrypted_data_keys.now)); short = p.short_data_keys }
 
-pub put-bytes-frame-length-requires : goal.put-bytes-frame-length-requires
-put-bytes-frame-length-requires c =
+pub put_bytes-frame_length-requires : goal.put_bytes-frame_length-requires
+put_bytes-frame_length-requires c =
     let long = length_header (header_with c.args.header c.args.commitment.now) in
-    omega (arith, c.requires.room, c.put-bytes-id.ensures.next, c.put-bytes-context.ensures.next, c.put-context-count.ensures.next, c.put-count-first.ensures.next, c.put-data-keys-content-type.ensures.next, length-to_bytes 2 (length c.args.header.encrypted_data_keys.now))
+    omega (arith, c.requires.room, c.put_bytes-id.ensures.next, c.put_bytes-context.ensures.next, c.put_context-count.ensures.next, c.put_count-first.ensures.next, c.put_data_keys-content_type.ensures.next, length-to_bytes 2 (length c.args.header.encrypted_data_keys.now))
 
-pub put-frame-length-last-requires : goal.put-frame-length-last-requires
-put-frame-length-last-requires c =
+pub put_frame_length-last-requires : goal.put_frame_length-last-requires
+put_frame_length-last-requires c =
     let long = length_header (header_with c.args.header c.args.commitment.now) in
-    omega (arith, c.requires.room, c.put-bytes-id.ensures.next, c.put-bytes-context.ensures.next, c.put-context-count.ensures.next, c.put-count-first.ensures.next, c.put-data-keys-content-type.ensures.next, c.put-bytes-frame-length.ensures.next, length-to_bytes 2 (length c.args.header.encrypted_data_keys.now))
+    omega (arith, c.requires.room, c.put_bytes-id.ensures.next, c.put_bytes-context.ensures.next, c.put_context-count.ensures.next, c.put_count-first.ensures.next, c.put_data_keys-content_type.ensures.next, c.put_bytes-frame_length.ensures.next, length-to_bytes 2 (length c.args.header.encrypted_data_keys.now))
 
-pub put-bytes-requires : goal.put-bytes-requires
-put-bytes-requires c =
+pub put_bytes-requires : goal.put_bytes-requires
+put_bytes-requires c =
     let long = length_header (header_with c.args.header c.args.commitment.now) in
-    omega (arith, c.requires.room, c.put-bytes-id.ensures.next, c.put-bytes-context.ensures.next, c.put-context-count.ensures.next, c.put-count-first.ensures.next, c.put-data-keys-content-type.ensures.next, c.put-bytes-frame-length.ensures.next, c.put-frame-length-last.ensures.next, length-to_bytes 2 (length c.args.header.encrypted_data_keys.now), length-to_bytes 4 c.args.header.frame_length)
+    omega (arith, c.requires.room, c.put_bytes-id.ensures.next, c.put_bytes-context.ensures.next, c.put_context-count.ensures.next, c.put_count-first.ensures.next, c.put_data_keys-content_type.ensures.next, c.put_bytes-frame_length.ensures.next, c.put_frame_length-last.ensures.next, length-to_bytes 2 (length c.args.header.encrypted_data_keys.now), length-to_bytes 4 c.args.header.frame_length)
 
 pub returns : goal.returns
 returns c =
-    let count = subst (λ n. Written c.put-context-count.new.out c.put-context-count.result (to_bytes 2 n) c.put-count-first.result c.put-count-first.new.out) (sym (length-data_keys_model c.args.header.encrypted_data_keys.now)) c.put-count-first.ensures in
-    written_then _ _ _ _ _ _ _ _ c.put-bytes-id.ensures (written_then _ _ _ _ _ _ _ _ c.put-bytes-context.ensures (written_then _ _ _ _ _ _ _ _ c.put-context-count.ensures (written_then _ _ _ _ _ _ _ _ count (written_then _ _ _ _ _ _ _ _ c.put-data-keys-content-type.ensures (written_then _ _ _ _ _ _ _ _ c.put-bytes-frame-length.ensures (written_then _ _ _ _ _ _ _ _ c.put-frame-length-last.ensures c.put-bytes.ensures))))))
+    let count = subst (λ n. Written c.put_context-count.new.out c.put_context-count.result (to_bytes 2 n) c.put_count-first.result c.put_count-first.new.out) (sym (length-data_keys_model c.args.header.encrypted_data_keys.now)) c.put_count-first.ensures in
+    written_then _ _ _ _ _ _ _ _ c.put_bytes-id.ensures (written_then _ _ _ _ _ _ _ _ c.put_bytes-context.ensures (written_then _ _ _ _ _ _ _ _ c.put_context-count.ensures (written_then _ _ _ _ _ _ _ _ count (written_then _ _ _ _ _ _ _ _ c.put_data_keys-content_type.ensures (written_then _ _ _ _ _ _ _ _ c.put_bytes-frame_length.ensures (written_then _ _ _ _ _ _ _ _ c.put_frame_length-last.ensures c.put_bytes.ensures))))))

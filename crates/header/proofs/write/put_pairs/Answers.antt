@@ -9,8 +9,8 @@ use Rattle.header.proofs.write.put_pairs.Goals as goal
 pub loop-pair-init : goal.loop-pair-init
 loop-pair-init c = (λ m e w. w, refl, c.requires.short)
 
-pub put-pair-to-requires : goal.put-pair-to-requires
-put-pair-to-requires c =
+pub put_pair-to-requires : goal.put_pair-to-requires
+put_pair-to-requires c =
     let more = ap length (pairs_split c.args.context.now c.loop-pair.pair-index c.loop-pair-test.true) in
     let sum = length-append (pair_bytes (pair (get_or c.args.context.now c.loop-pair.pair-index no_pair))) (pairs_bytes (pairs (drop (c.loop-pair.pair-index + 1) c.args.context.now))) in
     record { room = omega (arith, c.requires.room, c.loop-pair.invariant.1); short = (short_pairs_split c.args.context.now c.loop-pair.pair-index c.loop-pair-test.true c.loop-pair.invariant.2).0 }
@@ -20,8 +20,8 @@ loop-pair-preserved c =
     let split = pairs_split c.args.context.now c.loop-pair.pair-index c.loop-pair-test.true in
     let more = ap length split in
     let sum = length-append (pair_bytes (pair (get_or c.args.context.now c.loop-pair.pair-index no_pair))) (pairs_bytes (pairs (drop (c.loop-pair.pair-index + 1) c.args.context.now))) in (
-      λ m e w. c.loop-pair.invariant.0 m e (written_step _ _ _ _ _ _ _ _ _ split c.put-pair-to.ensures w),
-      omega (arith, c.loop-pair.invariant.1, c.put-pair-to.ensures.next),
+      λ m e w. c.loop-pair.invariant.0 m e (written_step _ _ _ _ _ _ _ _ _ split c.put_pair-to.ensures w),
+      omega (arith, c.loop-pair.invariant.1, c.put_pair-to.ensures.next),
       (short_pairs_split c.args.context.now c.loop-pair.pair-index c.loop-pair-test.true c.loop-pair.invariant.2).1,
     )
 
