@@ -6,32 +6,32 @@ use Rattle.header_read.proofs.Steps.{pick_yes, pick_no}
 use Rattle.header_read.proofs.HeaderParts.{context_of, context_zero, context_falls, context_goes_on, context_some}
 use Rattle.header_read.proofs.read.cut_context.Goals as goal
 
-pub returns-in-default : goal.returns-in-default
-returns-in-default c = and_then_none _ _ c.in-default.ensures
+pub returns-in_default : goal.returns-in_default
+returns-in_default c = and_then_none _ _ c.in_default.ensures
 
-pub returns-then-is-empty : goal.returns-then-is-empty
+pub returns-then-is_empty : goal.returns-then-is_empty
 unfolding listed_pairs
-returns-then-is-empty c = pick_yes _ _ _ c.if-is-empty.ensures ∙ and_then_some _ _ _ c.in-Some.ensures
+returns-then-is_empty c = pick_yes _ _ _ c.if-is_empty.ensures ∙ and_then_some _ _ _ c.in-Some.ensures
 
-pub returns-in-default-cut-u16 : goal.returns-in-default-cut-u16
-returns-in-default-cut-u16 c = number_none 2 _ _ c.in-default-cut-u16.ensures.value ∙ pick_no _ _ _ c.if-is-empty.ensures ∙ and_then_some _ _ _ c.in-Some.ensures
+pub returns-in_default-cut_u16 : goal.returns-in_default-cut_u16
+returns-in_default-cut_u16 c = number_none 2 _ _ c.in_default-cut_u16.ensures.value ∙ pick_no _ _ _ c.if-is_empty.ensures ∙ and_then_some _ _ _ c.in-Some.ensures
 
 pub returns-then-count-eq0 : goal.returns-then-count-eq0
 returns-then-count-eq0 c =
-    context_zero c.in-Some-cut-u16.number c.in-Some-cut-u16.pairs.now c.in-Some.rest.now c.if-count-eq0.true
-    ∙ number_some 2 _ _ _ (context_of c.in-Some.rest.now) c.in-Some-cut-u16.ensures.value ∙ pick_no _ _ _ c.if-is-empty.ensures ∙ and_then_some _ _ _ c.in-Some.ensures
+    context_zero c.in-Some-cut_u16.number c.in-Some-cut_u16.pairs.now c.in-Some.rest.now c.if-count-eq0.true
+    ∙ number_some 2 _ _ _ (context_of c.in-Some.rest.now) c.in-Some-cut_u16.ensures.value ∙ pick_no _ _ _ c.if-is_empty.ensures ∙ and_then_some _ _ _ c.in-Some.ensures
 
-pub returns-in-default-skip-rising-pairs : goal.returns-in-default-skip-rising-pairs
-returns-in-default-skip-rising-pairs c =
-    context_falls (read_pairs c.in-Some-cut-u16.number c.in-Some-cut-u16.pairs.now) c.in-Some.rest.now c.in-default-skip-rising-pairs.ensures
-    ∙ number_some 2 _ _ _ (context_of c.in-Some.rest.now) c.in-Some-cut-u16.ensures.value ∙ pick_no _ _ _ c.if-is-empty.ensures ∙ and_then_some _ _ _ c.in-Some.ensures
+pub returns-in_default-skip_rising_pairs : goal.returns-in_default-skip_rising_pairs
+returns-in_default-skip_rising_pairs c =
+    context_falls (read_pairs c.in-Some-cut_u16.number c.in-Some-cut_u16.pairs.now) c.in-Some.rest.now c.in_default-skip_rising_pairs.ensures
+    ∙ number_some 2 _ _ _ (context_of c.in-Some.rest.now) c.in-Some-cut_u16.ensures.value ∙ pick_no _ _ _ c.if-is_empty.ensures ∙ and_then_some _ _ _ c.in-Some.ensures
 
-pub returns-then-not-is-empty : goal.returns-then-not-is-empty
-returns-then-not-is-empty c =
-    context_goes_on (read_pairs c.in-Some-cut-u16.number c.in-Some-cut-u16.pairs.now) _ c.in-Some.rest.now c.in-Some-skip-rising-pairs.ensures c.if-not-is-empty.ensures
-    ∙ number_some 2 _ _ _ (context_of c.in-Some.rest.now) c.in-Some-cut-u16.ensures.value ∙ pick_no _ _ _ c.if-is-empty.ensures ∙ and_then_some _ _ _ c.in-Some.ensures
+pub returns-then-not-is_empty : goal.returns-then-not-is_empty
+returns-then-not-is_empty c =
+    context_goes_on (read_pairs c.in-Some-cut_u16.number c.in-Some-cut_u16.pairs.now) _ c.in-Some.rest.now c.in-Some-skip_rising_pairs.ensures c.if-not-is_empty.ensures
+    ∙ number_some 2 _ _ _ (context_of c.in-Some.rest.now) c.in-Some-cut_u16.ensures.value ∙ pick_no _ _ _ c.if-is_empty.ensures ∙ and_then_some _ _ _ c.in-Some.ensures
 
 pub returns : goal.returns
 returns c =
-    context_some c.in-Some-cut-u16.number c.in-Some-cut-u16.pairs.now _ c.in-Some.rest.now (omega arith) c.in-Some-skip-rising-pairs.ensures c.if-not-is-empty.ensures
-    ∙ number_some 2 _ _ _ (context_of c.in-Some.rest.now) c.in-Some-cut-u16.ensures.value ∙ pick_no _ _ _ c.if-is-empty.ensures ∙ and_then_some _ _ _ c.in-Some.ensures
+    context_some c.in-Some-cut_u16.number c.in-Some-cut_u16.pairs.now _ c.in-Some.rest.now (omega arith) c.in-Some-skip_rising_pairs.ensures c.if-not-is_empty.ensures
+    ∙ number_some 2 _ _ _ (context_of c.in-Some.rest.now) c.in-Some-cut_u16.ensures.value ∙ pick_no _ _ _ c.if-is_empty.ensures ∙ and_then_some _ _ _ c.in-Some.ensures

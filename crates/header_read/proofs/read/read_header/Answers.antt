@@ -3,27 +3,27 @@ use Rattle.octets.proofs.Cuts.{cut_parts, and_then_some, and_then_none}
 use Rattle.header_read.proofs.HeaderParts.{header_by_parts, id_long}
 use Rattle.header_read.proofs.read.read_header.Goals as goal
 
-pub returns-in-default : goal.returns-in-default
-returns-in-default c = record { value = and_then_none _ _ c.in-default.ensures ∙ header_by_parts _; lengths = tt }
+pub returns-in_default : goal.returns-in_default
+returns-in_default c = record { value = and_then_none _ _ c.in_default.ensures ∙ header_by_parts _; lengths = tt }
 
-pub returns-in-default-cut-context : goal.returns-in-default-cut-context
-returns-in-default-cut-context c = record { value = and_then_none _ _ c.in-default-cut-context.ensures ∙ and_then_some _ _ _ c.in-Some.ensures ∙ header_by_parts _; lengths = tt }
+pub returns-in_default-cut_context : goal.returns-in_default-cut_context
+returns-in_default-cut_context c = record { value = and_then_none _ _ c.in_default-cut_context.ensures ∙ and_then_some _ _ _ c.in-Some.ensures ∙ header_by_parts _; lengths = tt }
 
-pub returns-in-default-cut-data-keys : goal.returns-in-default-cut-data-keys
-returns-in-default-cut-data-keys c = record { value = and_then_none _ _ c.in-default-cut-data-keys.ensures ∙ and_then_some _ _ _ c.in-Some-cut-context.ensures ∙ and_then_some _ _ _ c.in-Some.ensures ∙ header_by_parts _; lengths = tt }
+pub returns-in_default-cut_data_keys : goal.returns-in_default-cut_data_keys
+returns-in_default-cut_data_keys c = record { value = and_then_none _ _ c.in_default-cut_data_keys.ensures ∙ and_then_some _ _ _ c.in-Some-cut_context.ensures ∙ and_then_some _ _ _ c.in-Some.ensures ∙ header_by_parts _; lengths = tt }
 
-pub returns-in-default-cut-frame-length : goal.returns-in-default-cut-frame-length
-returns-in-default-cut-frame-length c = record { value = and_then_none _ _ c.in-default-cut-frame-length.ensures ∙ and_then_some _ _ _ c.in-Some-cut-data-keys.ensures ∙ and_then_some _ _ _ c.in-Some-cut-context.ensures ∙ and_then_some _ _ _ c.in-Some.ensures ∙ header_by_parts _; lengths = tt }
+pub returns-in_default-cut_frame_length : goal.returns-in_default-cut_frame_length
+returns-in_default-cut_frame_length c = record { value = and_then_none _ _ c.in_default-cut_frame_length.ensures ∙ and_then_some _ _ _ c.in-Some-cut_data_keys.ensures ∙ and_then_some _ _ _ c.in-Some-cut_context.ensures ∙ and_then_some _ _ _ c.in-Some.ensures ∙ header_by_parts _; lengths = tt }
 
-pub returns-in-default-cut : goal.returns-in-default-cut
-returns-in-default-cut c = record { value = and_then_none _ _ c.in-default-cut.ensures.value ∙ and_then_some _ _ _ c.in-Some-cut-frame-length.ensures ∙ and_then_some _ _ _ c.in-Some-cut-data-keys.ensures ∙ and_then_some _ _ _ c.in-Some-cut-context.ensures ∙ and_then_some _ _ _ c.in-Some.ensures ∙ header_by_parts _; lengths = tt }
+pub returns-in_default-cut : goal.returns-in_default-cut
+returns-in_default-cut c = record { value = and_then_none _ _ c.in_default-cut.ensures.value ∙ and_then_some _ _ _ c.in-Some-cut_frame_length.ensures ∙ and_then_some _ _ _ c.in-Some-cut_data_keys.ensures ∙ and_then_some _ _ _ c.in-Some-cut_context.ensures ∙ and_then_some _ _ _ c.in-Some.ensures ∙ header_by_parts _; lengths = tt }
 
-pub returns-in-default-cut-2 : goal.returns-in-default-cut-2
-returns-in-default-cut-2 c = record { value = and_then_none _ _ c.in-default-cut-2.ensures.value ∙ and_then_some _ _ _ c.in-Some-cut.ensures.value ∙ and_then_some _ _ _ c.in-Some-cut-frame-length.ensures ∙ and_then_some _ _ _ c.in-Some-cut-data-keys.ensures ∙ and_then_some _ _ _ c.in-Some-cut-context.ensures ∙ and_then_some _ _ _ c.in-Some.ensures ∙ header_by_parts _; lengths = tt }
+pub returns-in_default-cut-2 : goal.returns-in_default-cut-2
+returns-in_default-cut-2 c = record { value = and_then_none _ _ c.in_default-cut-2.ensures.value ∙ and_then_some _ _ _ c.in-Some-cut.ensures.value ∙ and_then_some _ _ _ c.in-Some-cut_frame_length.ensures ∙ and_then_some _ _ _ c.in-Some-cut_data_keys.ensures ∙ and_then_some _ _ _ c.in-Some-cut_context.ensures ∙ and_then_some _ _ _ c.in-Some.ensures ∙ header_by_parts _; lengths = tt }
 
 pub returns : goal.returns
 returns c = record {
-  value = and_then_some _ _ _ c.in-Some-cut-2.ensures.value ∙ and_then_some _ _ _ c.in-Some-cut.ensures.value ∙ and_then_some _ _ _ c.in-Some-cut-frame-length.ensures ∙ and_then_some _ _ _ c.in-Some-cut-data-keys.ensures ∙ and_then_some _ _ _ c.in-Some-cut-context.ensures ∙ and_then_some _ _ _ c.in-Some.ensures ∙ header_by_parts _;
+  value = and_then_some _ _ _ c.in-Some-cut-2.ensures.value ∙ and_then_some _ _ _ c.in-Some-cut.ensures.value ∙ and_then_some _ _ _ c.in-Some-cut_frame_length.ensures ∙ and_then_some _ _ _ c.in-Some-cut_data_keys.ensures ∙ and_then_some _ _ _ c.in-Some-cut_context.ensures ∙ and_then_some _ _ _ c.in-Some.ensures ∙ header_by_parts _;
   lengths = record {
     id = id_long _ _ c.in-Some.ensures;
     commitment = (cut_parts 32 _ _ _ c.in-Some-cut.ensures.value).long;

@@ -7,17 +7,17 @@ use Rattle.sealing.specs.Whole.{frames_length}
 use Rattle.sealing.proofs.Messages.{text_short, few_frames, header_short, length_start, length_message}
 use Rattle.sealing.proofs.message.checked_len.Goals as goal
 
-pub overflow-add-result : goal.overflow-add-result
-overflow-add-result c = let short = header_short c.args.header c.args.checked c.requires.passed c.requires.checked in omega arith
+pub overflow_add-result : goal.overflow_add-result
+overflow_add-result c = let short = header_short c.args.header c.args.checked c.requires.passed c.requires.checked in omega arith
 
-pub frames-len-requires : goal.frames-len-requires
-frames-len-requires c =
+pub frames_len-requires : goal.frames_len-requires
+frames_len-requires c =
     let p = header_passed (request_with [] c.args.header []) (sym c.requires.passed) in
     let t = text_short c.args.text_len c.args.header.frame_length c.requires.fits in
     record { some = p.frame_length; few = t.0; short = t.1 }
 
-pub overflow-add-result-2 : goal.overflow-add-result-2
-overflow-add-result-2 c =
+pub overflow_add-result-2 : goal.overflow_add-result-2
+overflow_add-result-2 c =
     let short = header_short c.args.header c.args.checked c.requires.passed c.requires.checked in
     let p = header_passed (request_with [] c.args.header []) (sym c.requires.passed) in
     let t = text_short c.args.text_len c.args.header.frame_length c.requires.fits in

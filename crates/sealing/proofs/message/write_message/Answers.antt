@@ -9,28 +9,28 @@ use Rattle.sealing.proofs.Messages.{start_is, start_room, frames_room, text_shor
 use Rattle.sealing.proofs.Remaining.{part_long}
 use Rattle.sealing.proofs.message.write_message.Goals as goal
 
-pub write-start-at-requires : goal.write-start-at-requires
-write-start-at-requires c =
+pub write_start-at-requires : goal.write_start-at-requires
+write_start-at-requires c =
     let parts = passed_parts (request_of c.args.request) c.requires.passed in
     let low = (header_passed (request_of c.args.request) (sym parts.0)).frame_length in
     let commit = c.prepare-keys.ensures.commitment ∙ ap₂ (λ a b. commitment a b) c.requires.checked.key c.requires.checked.header.id in
     record { passed = parts.0; room = start_room c.args.request.key.now c.args.request.header c.args.request.text.now _ _ commit low c.requires.room }
 
-pub seal-frames-requires : goal.seal-frames-requires
-seal-frames-requires c =
+pub seal_frames-requires : goal.seal_frames-requires
+seal_frames-requires c =
     let parts = passed_parts (request_of c.args.request) c.requires.passed in
     let low = (header_passed (request_of c.args.request) (sym parts.0)).frame_length in
     let cipher = c.prepare-keys.ensures.cipher ∙ ap₂ (λ a b. sealing_key a b) c.requires.checked.key c.requires.checked.header.id in
     let commit = c.prepare-keys.ensures.commitment ∙ ap₂ (λ a b. commitment a b) c.requires.checked.key c.requires.checked.header.id in
     let first = start_is c.args.request.key.now c.args.request.header c.args.request.text.now _ _ cipher commit in
-    let next = c.write-start-at.ensures.next in
-    let fit = c.write-start-at.ensures.room in
-    let mid : length c.write-start-at.new.out ≡ length c.args.out.now = omega arith in
-    let room = frames_room (request_of c.args.request) _ c.write-start-at.result (length c.write-start-at.new.out) c.write-start-at.ensures.next first low (mid ∙ c.requires.room) in
+    let next = c.write_start-at.ensures.next in
+    let fit = c.write_start-at.ensures.room in
+    let mid : length c.write_start-at.new.out ≡ length c.args.out.now = omega arith in
+    let room = frames_room (request_of c.args.request) _ c.write_start-at.result (length c.write_start-at.new.out) c.write_start-at.ensures.next first low (mid ∙ c.requires.room) in
     record {
       some = low;
       few = (text_short _ _ parts.1).0;
-      room = part_long c.write-start-at.new.out c.write-start-at.result (length c.write-start-at.new.out) (omega arith) (omega arith) ∙ room;
+      room = part_long c.write_start-at.new.out c.write_start-at.result (length c.write_start-at.new.out) (omega arith) (omega arith) ∙ room;
       long = ap length cipher ∙ length-sealing_key c.args.request.key.now c.args.request.header.id.now;
     }
 
@@ -38,9 +38,9 @@ pub returns : goal.returns
 returns c =
     let cipher = c.prepare-keys.ensures.cipher ∙ ap₂ (λ a b. sealing_key a b) c.requires.checked.key c.requires.checked.header.id in
     let commit = c.prepare-keys.ensures.commitment ∙ ap₂ (λ a b. commitment a b) c.requires.checked.key c.requires.checked.header.id in
-    let next = c.write-start-at.ensures.next in
-    let fit = c.write-start-at.ensures.room in
-    whole (request_of c.args.request) c.args.out.now c.write-start-at.new.out c.seal-frames.new.out _ c.write-start-at.result _ c.write-start-at.ensures
-    (start_is c.args.request.key.now c.args.request.header c.args.request.text.now _ _ cipher commit) c.requires.room (let long = part_long c.write-start-at.new.out c.write-start-at.result (length c.write-start-at.new.out) (omega arith) (omega arith) in omega arith)
-    (c.seal-frames.ensures
+    let next = c.write_start-at.ensures.next in
+    let fit = c.write_start-at.ensures.room in
+    whole (request_of c.args.request) c.args.out.now c.write_start-at.new.out c.seal_frames.new.out _ c.write_start-at.result _ c.write_start-at.ensures
+    (start_is c.args.request.key.now c.args.request.header c.args.request.text.now _ _ cipher commit) c.requires.room (let long = part_long c.write_start-at.new.out c.write_start-at.result (length c.write_start-at.new.out) (omega arith) (omega arith) in omega arith)
+    (c.seal_frames.ensures
     ∙ ap₂ (λ a b. frames (suc (length c.args.request.text.now)) a b c.args.request.header.frame_length 1 c.args.request.text.now) cipher c.requires.checked.header.id)

@@ -5,8 +5,8 @@ use Rattle.header_read.proofs.cursor.PairsIterator.next.Goals as goal
 pub returns-then-self-eq0 : goal.returns-then-self-eq0
 returns-then-self-eq0 c = record { steps = pairs_none _ _ c.if-self-eq0.true; goes = search rules }
 
-pub returns-in-default : goal.returns-in-default
-returns-in-default c = record { steps = pairs_short _ _ c.in-default.ensures; goes = search rules }
+pub returns-in_default : goal.returns-in_default
+returns-in_default c = record { steps = pairs_short _ _ c.in_default.ensures; goes = search rules }
 
 pub returns : goal.returns
 returns c = record { steps = pairs_next c.args.self.now.count _ _ c.if-self-eq0.false c.in-Some.ensures; goes = search rules }

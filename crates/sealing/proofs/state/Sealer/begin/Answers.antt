@@ -9,40 +9,40 @@ use Rattle.sealing.proofs.Answered.{start_key, start_refused, start_no_room, sta
 use Rattle.sealing.proofs.Messages.{start_as_checked, start_written, header_short}
 use Rattle.sealing.proofs.state.Sealer.begin.Goals as goal
 
-pub returns-in-default : goal.returns-in-default
-returns-in-default c = record { value = start_key c.args.key.now c.args.header (length c.args.out.now) (not_32 c.args.key.now c.in-default.ensures.value); written = refl }
+pub returns-in_default : goal.returns-in_default
+returns-in_default c = record { value = start_key c.args.key.now c.args.header (length c.args.out.now) (not_32 c.args.key.now c.in_default.ensures.value); written = refl }
 
-pub returns-in-err-checked : goal.returns-in-err-checked
-returns-in-err-checked c =
-    let p = err_from_is_err_and c.from-residual.result c.from-residual.ensures.1 in
+pub returns-in_err-checked : goal.returns-in_err-checked
+returns-in_err-checked c =
+    let p = err_from_is_err_and c.from_residual.result c.from_residual.ensures.1 in
     let k = eqb-true _ _ (some_cond _ _ _ c.in-Some.ensures.value).0 in
-    rw (p.1, p.2) (record { value = start_refused c.args.key.now c.args.header (length c.args.out.now) _ k c.in-err-checked.ensures.value (numbers_positive c.in-err-checked.field-0.0); written = refl })
+    rw (p.1, p.2) (record { value = start_refused c.args.key.now c.args.header (length c.args.out.now) _ k c.in_err-checked.ensures.value (numbers_positive c.in_err-checked.field-0.0); written = refl })
 
-pub overflow-add-start-len : goal.overflow-add-start-len
-overflow-add-start-len c = let short = header_short c.args.header c.in-ok-checked.checked (sym c.in-ok-checked.ensures.value) c.in-ok-checked.ensures.checked in omega arith
+pub overflow_add-start_len : goal.overflow_add-start_len
+overflow_add-start_len c = let short = header_short c.args.header c.in_ok-checked.checked (sym c.in_ok-checked.ensures.value) c.in_ok-checked.ensures.checked in omega arith
 
-pub returns-then-out-start-len : goal.returns-then-out-start-len
-returns-then-out-start-len c =
+pub returns-then-out-start_len : goal.returns-then-out-start_len
+returns-then-out-start_len c =
     let k = eqb-true _ _ (some_cond _ _ _ c.in-Some.ensures.value).0 in
-    let long = start_as_checked c.args.key.now c.args.header [] c.in-ok-checked.checked c.in-ok-checked.ensures.checked in
-    record { value = start_no_room c.args.key.now c.args.header (length c.args.out.now) k c.in-ok-checked.ensures.value (omega arith); written = refl }
+    let long = start_as_checked c.args.key.now c.args.header [] c.in_ok-checked.checked c.in_ok-checked.ensures.checked in
+    record { value = start_no_room c.args.key.now c.args.header (length c.args.out.now) k c.in_ok-checked.ensures.value (omega arith); written = refl }
 
-pub invariant-of-result : goal.invariant-of-result
-invariant-of-result c =
-    let p = header_passed (request_with [] c.args.header []) c.in-ok-checked.ensures.value in
-    (ap length c.in-ok-checked.ensures.checked.id ∙ p.id, (p.frame_length, (omega arith, (omega arith, (omega arith, tt)))))
+pub invariant_of-result : goal.invariant_of-result
+invariant_of-result c =
+    let p = header_passed (request_with [] c.args.header []) c.in_ok-checked.ensures.value in
+    record { long = ap length c.in_ok-checked.ensures.checked.id ∙ p.id; some = p.frame_length; fits = omega arith; counted = omega arith; few = omega arith }
 
 pub returns : goal.returns
 returns c =
     let k = some_cond _ _ _ c.in-Some.ensures.value in
-    let checked = c.in-ok-checked.ensures.checked in
+    let checked = c.in_ok-checked.ensures.checked in
     let cipher = c.prepare-keys.ensures.cipher ∙ ap₂ (λ a b. sealing_key a b) k.1 checked.id in
     let commit = c.prepare-keys.ensures.commitment ∙ ap₂ (λ a b. commitment a b) k.1 checked.id in
-    let long = start_as_checked c.args.key.now c.args.header [] c.in-ok-checked.checked c.in-ok-checked.ensures.checked in
+    let long = start_as_checked c.args.key.now c.args.header [] c.in_ok-checked.checked c.in_ok-checked.ensures.checked in
     record {
-      value = start_passes c.args.key.now c.args.header (length c.args.out.now) (eqb-true _ _ k.0) c.in-ok-checked.ensures.value (omega arith);
+      value = start_passes c.args.key.now c.args.header (length c.args.out.now) (eqb-true _ _ k.0) c.in_ok-checked.ensures.value (omega arith);
       written = (
-        record { key_long = eqb-true _ _ k.0; passed = sym c.in-ok-checked.ensures.value; cipher = cipher; id = checked.id; frame_length = refl; number = refl; unfinished = refl },
-        start_written c.args.key.now c.args.header [] _ _ _ _ _ cipher commit c.write-start-len.ensures,
+        record { key_long = eqb-true _ _ k.0; passed = sym c.in_ok-checked.ensures.value; cipher = cipher; id = checked.id; frame_length = refl; number = refl; unfinished = refl },
+        start_written c.args.key.now c.args.header [] _ _ _ _ _ cipher commit c.write_start-len.ensures,
       );
     }

@@ -4,11 +4,11 @@ use Rattle.header.specs.Checked.{text_fits}
 use Rattle.sealing.proofs.Answered.{no_room}
 use Rattle.sealing.proofs.state.Sealer.seal_regular.Goals as goal
 
-pub returns-in-default : goal.returns-in-default
-returns-in-default c = record {
+pub returns-in_default : goal.returns-in_default
+returns-in_default c = record {
   value =
       no_room _ _ _ _ _ _ _ _ c.if-self.false (eq-eqb _ _ c.if-text-self.false)
       (and_from _ _ (lt-ltb c.args.self.now.number 4294967295 (let few = c.args.self.now.few in omega arith))
-      (sym (c.if-not-text-fits.ensures.value ∙ ap (λ n. text_fits n c.args.self.now.frame_length) c.text_len.ensures))) c.in-default.ensures.fits;
-  written = (record { cipher = refl; id = refl; frame_length = refl; number = refl; finished = refl }, c.in-default.ensures.value);
+      (sym (c.if-not-text_fits.ensures.value ∙ ap (λ n. text_fits n c.args.self.now.frame_length) c.text_len.ensures))) c.in_default.ensures.fits;
+  written = (record { cipher = refl; id = refl; frame_length = refl; number = refl; finished = refl }, c.in_default.ensures.value);
 }
