@@ -10,37 +10,37 @@ use Rattle.opening.specs.Unlocked.{open_rest}
 use Rattle.opening.proofs.Unlocking.{split, opening_none, opening_some}
 use Rattle.opening.proofs.state.Opener.new.Goals as goal
 
-pub returns-in-default : goal.returns-in-default
-returns-in-default c = record {
+pub returns-in_default : goal.returns-in_default
+returns-in_default c = record {
   value = λ more.
-      ⊎_elim (λ z. opening_none c.args.key.now (c.args.bytes.now ++ more) (c.in-default.ensures.value ∙ ap read_header (sym (append-nil c.args.bytes.now) ∙ ap (λ l. c.args.bytes.now ++ l) (sym z))))
-      (λ l. absurd (let e = ap length c.in-default.ensures.value in omega arith));
+      ⊎_elim (λ z. opening_none c.args.key.now (c.args.bytes.now ++ more) (c.in_default.ensures.value ∙ ap read_header (sym (append-nil c.args.bytes.now) ∙ ap (λ l. c.args.bytes.now ++ l) (sym z))))
+      (λ l. absurd (let e = ap length c.in_default.ensures.value in omega arith));
 }
 
-pub returns-in-err-unlocked : goal.returns-in-err-unlocked
-returns-in-err-unlocked c =
-    let p = err_from_is_err_and c.from-residual.result c.from-residual.ensures.1 in
+pub returns-in_err-unlocked : goal.returns-in_err-unlocked
+returns-in_err-unlocked c =
+    let p = err_from_is_err_and c.from_residual.result c.from_residual.ensures.1 in
     rw (p.1, p.2) (record {
       value = λ more w.
-          c.in-err-unlocked.ensures (c.in-Some.read.rest.now ++ more)
+          c.in_err-unlocked.ensures (c.in-Some.read.rest.now ++ more)
           ∙ opening_some c.args.key.now (c.args.bytes.now ++ more) (header_on more (read_header_in c.in-Some.read)) (sym (header_grows more c.args.bytes.now (read_header_in c.in-Some.read) [] (sym c.in-Some.ensures.value)));
     })
 
-pub overflow-sub-result : goal.overflow-sub-result
-overflow-sub-result c = let s = (split c.args.bytes.now (read_header_in c.in-Some.read) (λ i. omega (arith, c.type-inv.bytes i)) c.in-Some.ensures.value).sum in omega arith
+pub overflow_sub-result : goal.overflow_sub-result
+overflow_sub-result c = let s = (split c.args.bytes.now (read_header_in c.in-Some.read) (λ i. omega (arith, c.type_inv.bytes i)) c.in-Some.ensures.value).sum in omega arith
 
 pub returns : goal.returns
 returns c =
-    let s = split c.args.bytes.now (read_header_in c.in-Some.read) (λ i. omega (arith, c.type-inv.bytes i)) c.in-Some.ensures.value in
+    let s = split c.args.bytes.now (read_header_in c.in-Some.read) (λ i. omega (arith, c.type_inv.bytes i)) c.in-Some.ensures.value in
     record {
       value = record {
         read = read_header_in c.in-Some.read;
         found = c.in-Some.ensures.value;
-        matches = c.in-ok-unlocked.ensures.0;
+        matches = c.in_ok-unlocked.ensures.0;
         rest = s.rest;
         comes = λ more.
-            pick_false _ _ _ refl ∙ ap (λ l. open_rest (key_of c.in-ok-unlocked.unlocked.key) (header_in c.in-Some.read.header) 1 [] (l ++ more)) s.rest
-            ∙ c.in-ok-unlocked.ensures.1 (c.in-Some.read.rest.now ++ more)
+            pick_false _ _ _ refl ∙ ap (λ l. open_rest (key_of c.in_ok-unlocked.unlocked.key) (header_in c.in-Some.read.header) 1 [] (l ++ more)) s.rest
+            ∙ c.in_ok-unlocked.ensures.1 (c.in-Some.read.rest.now ++ more)
             ∙ opening_some c.args.key.now (c.args.bytes.now ++ more) (header_on more (read_header_in c.in-Some.read)) (sym (header_grows more c.args.bytes.now (read_header_in c.in-Some.read) [] (sym c.in-Some.ensures.value)));
       };
     }
