@@ -17,6 +17,7 @@ use header::HeaderRequest;
 use inputs::{encrypted_keys, message_id, pairs_of, read_data_keys};
 use message::{Sealed, seal_file};
 use programs::{check_output, read_key, say};
+use std::process::ExitCode;
 use std::{env, io};
 
 const VERSION: &str = "strongbox-seal 1.0.0";
@@ -36,29 +37,23 @@ Seals the file INPUT into a message, the file OUTPUT.
   --help                print this
   --version             print the version";
 
-#[derive(Drop)]
-pub struct Failed;
-
-fn complain(rt: &HostRuntime, problem: Problem) -> Failed {
+fn complain(rt: &HostRuntime, problem: Problem) -> ExitCode {
     let _ = eprintln!(rt; "strongbox-seal: {problem}");
-    Failed
+    ExitCode::FAILURE
 }
 
-fn main(rt: HostRuntime) -> Result<(), Failed> {
+fn main(rt: HostRuntime) -> ExitCode {
     let args = match env::args(&rt) {
         Ok(args) => args,
-        Err(error) => return Err(complain(
-            &rt,
-            Problem::File(Action::Read, "the command line", error),
-        )),
+        Err(error) => return complain(&rt, Problem::File(Action::Read, "the command line", error)),
     };
     let words: Vec<String> = match args.skip(1).collect(rt.alloc()) {
         Ok(words) => words,
-        Err(_) => return Err(complain(&rt, Problem::Memory)),
+        Err(_) => return complain(&rt, Problem::Memory),
     };
     match run(&rt, words.as_slice()) {
-        Ok(()) => Ok(()),
-        Err(problem) => Err(complain(&rt, problem)),
+        Ok(()) => ExitCode::SUCCESS,
+        Err(problem) => complain(&rt, problem),
     }
 }
 

@@ -9,4 +9,4 @@ returns-then-not-equal c = λ _. header_settles c.args.bytes.now c.in-Some.start
 pub returns : goal.returns
 returns c = λ t.
     header_settles c.args.bytes.now c.in-Some.start.now c.in-Some.more.now c.in-Some.ensures.value
-    (λ _. (c.in-Some-cut.field-0-0.now, (c.in-Some-cut.context.now, (c.in-Some-cut.ensures.value, (c.in-Some-skip-field.keys.now, (c.in-Some-skip-field.ensures, λ ps. c.data-keys-settled.ensures t c.in-Some-cut.field-0-0.now ps))))))
+    (λ _. (c.in-Some-cut.field-0-0.now, (c.in-Some-cut.context.now, (c.in-Some-cut.ensures.value, (c.in-Some-skip_field.keys.now, (c.in-Some-skip_field.ensures, λ ps. c.data_keys_settled.ensures t c.in-Some-cut.field-0-0.now ps))))))

@@ -4,11 +4,11 @@ use Rattle.octets.proofs.Cuts.{the_cut, and_then_none, and_then_some, number_non
 use Rattle.format.specs.Reading.{cut_field}
 use Rattle.header_front.proofs.skip.skip_field.Goals as goal
 
-pub returns-in-default : goal.returns-in-default
-returns-in-default c = and_then_none (cut_field c.args.bytes.now) _ (number_none 2 c.args.bytes.now _ c.in-default.ensures.value)
+pub returns-in_default : goal.returns-in_default
+returns-in_default c = and_then_none (cut_field c.args.bytes.now) _ (number_none 2 c.args.bytes.now _ c.in_default.ensures.value)
 
-pub returns-in-default-cut : goal.returns-in-default-cut
-returns-in-default-cut c = and_then_none (cut_field c.args.bytes.now) _ (c.in-default-cut.ensures.value ∙ number_some 2 c.args.bytes.now c.in-Some.len c.in-Some.more.now (λ n r. cut n r) c.in-Some.ensures.value)
+pub returns-in_default-cut : goal.returns-in_default-cut
+returns-in_default-cut c = and_then_none (cut_field c.args.bytes.now) _ (c.in_default-cut.ensures.value ∙ number_some 2 c.args.bytes.now c.in-Some.len c.in-Some.more.now (λ n r. cut n r) c.in-Some.ensures.value)
 
 pub returns : goal.returns
 returns c =

@@ -4,4 +4,4 @@ use Rattle.strongbox.specs.Told.{length_tells}
 use Rattle.strongbox.proofs.calls.sealed_len.Goals as goal
 
 pub returns : goal.returns
-returns c = record { value = length_tells (request_of c.args.request) c.sealed-len.result c.sealed-len.ensures.value c.sealed-len.ensures.told }
+returns c = record { value = length_tells (request_of c.args.request) c.sealed_len.result c.sealed_len.ensures.value c.sealed_len.ensures.told }
