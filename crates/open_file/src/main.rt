@@ -21,6 +21,7 @@ use open::open_file;
 use programs::{check_output, read_key, say};
 use show::print_header;
 use std::env;
+use std::process::ExitCode;
 
 const VERSION: &str = "strongbox-open 1.0.0";
 
@@ -35,29 +36,23 @@ Opens the message INPUT into the file OUTPUT, and prints its encryption context.
   --help                print this
   --version             print the version";
 
-#[derive(Drop)]
-pub struct Failed;
-
-fn complain(rt: &HostRuntime, problem: Problem) -> Failed {
+fn complain(rt: &HostRuntime, problem: Problem) -> ExitCode {
     let _ = eprintln!(rt; "strongbox-open: {problem}");
-    Failed
+    ExitCode::FAILURE
 }
 
-fn main(rt: HostRuntime) -> Result<(), Failed> {
+fn main(rt: HostRuntime) -> ExitCode {
     let args = match env::args(&rt) {
         Ok(args) => args,
-        Err(error) => return Err(complain(
-            &rt,
-            Problem::File(Action::Read, "the command line", error),
-        )),
+        Err(error) => return complain(&rt, Problem::File(Action::Read, "the command line", error)),
     };
     let words: Vec<String> = match args.skip(1).collect(rt.alloc()) {
         Ok(words) => words,
-        Err(_) => return Err(complain(&rt, Problem::Memory)),
+        Err(_) => return complain(&rt, Problem::Memory),
     };
     match run(&rt, words.as_slice()) {
-        Ok(()) => Ok(()),
-        Err(problem) => Err(complain(&rt, problem)),
+        Ok(()) => ExitCode::SUCCESS,
+        Err(problem) => complain(&rt, problem),
     }
 }
 

@@ -93,7 +93,7 @@ fn pass_frames<'a>(
     if frame_length > MAX_FRAME_LENGTH {
         return Err(Problem::LongFrames(command.input, frame_length));
     }
-    let mut source = match Source::after(file, header) {
+    let mut source = match Source::after(rt.alloc(), file, header) {
         Ok(source) => source,
         Err(error) => return Err(Problem::File(Action::Read, command.input, error)),
     };

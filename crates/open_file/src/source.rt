@@ -4,6 +4,7 @@ ghost use Rattle.std.specs.Prelude.{◌≤◌, length, IfOk};
 use commands::problem::{Action, Problem};
 use files::read::read_full;
 use sha512::Hasher;
+use std::alloc::Global;
 use std::fs::File;
 use std::io;
 use std::io::{BufReader, Seek, SeekFrom};
@@ -18,12 +19,12 @@ pub struct Source {
 
 impl Source {
     // The file from its header's end on; the header's bytes were taken.
-    pub fn after(mut file: File, header: &[u8]) -> io::Result<Source> {
+    pub fn after(heap: Global, mut file: File, header: &[u8]) -> io::Result<Source> {
         file.seek(SeekFrom::Start(header.len() as u64))?;
         let mut hasher = Hasher::new();
         hasher.update(header);
         Ok(Source {
-            file: BufReader::new(file),
+            file: BufReader::new(heap, file)?,
             hasher,
             held: 0,
         })

@@ -64,7 +64,7 @@ impl<'a> Words<'a> {
 // Hexadecimal digits as bytes; none for `-`.
 fn unhex(heap: Global, digits: &[u8]) -> anyhow::Result<Vec<u8>> {
     let mut bytes = Vec::new(heap);
-    if digits == b"-" {
+    if digits == b"-".as_slice() {
         return Ok(bytes);
     }
     if digits.len() % 2 != 0 {
