@@ -3,13 +3,13 @@
 // are zeros.
 #![tactic(auto)]
 
-mod frames;
 pub mod joined;
 mod message;
 mod opener;
 mod refusal;
 mod state;
 mod unlock;
+mod walk;
 
 pub use message::{Opened, open};
 pub use refusal::OpenRefusal;

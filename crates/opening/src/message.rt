@@ -5,9 +5,9 @@ ghost use Rattle.format.specs.Request.{Request};
 ghost use Rattle.format.specs.Sealed.{all_good};
 ghost use Rattle.opening.specs.Answer.{answer, text_len, opening, open_answer, Accounts};
 
-use crate::frames::open_frames;
 use crate::refusal::OpenRefusal;
 use crate::unlock::unlock;
+use crate::walk::open_frames;
 use header_read::{Context, read_header};
 use octets::clear;
 

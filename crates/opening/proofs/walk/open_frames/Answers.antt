@@ -3,7 +3,7 @@ use Rattle.octets.proofs.Bits.{pick_true, pick_false}
 use Rattle.gcm.specs.Key.{key_of}
 use Rattle.frames.specs.Next.{frame_of}
 use Rattle.opening.proofs.Steps.{step_none, step_wrong, text_found, text_lacks, taken, fits, part_long, going_more, going_final}
-use Rattle.opening.proofs.frames.open_frames.Goals as goal
+use Rattle.opening.proofs.walk.open_frames.Goals as goal
 
 pub slice_bounds-open_frame-end : goal.slice_bounds-open_frame-end
 slice_bounds-open_frame-end c =
