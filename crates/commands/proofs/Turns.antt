@@ -1,10 +1,10 @@
 -- Pairs and encrypted data keys are taken from the left: what one more word does to the whole.
-use Rattle.std.proofs.Common.{◌≡◌, ℕ, ◌+◌, ◌<◌, ◌≤◌, List, [], ◌∷◌, ◌++◌, map, length, get_or, drop, Some, None, Option, sym, refl, ap, ◌∙◌, append_assoc, append-nil, arith, Bor}
+use Rattle.std.proofs.Common.{◌≡◌, ℕ, ◌+◌, ◌<◌, ◌≤◌, List, [], ◌∷◌, ◌++◌, map, length, get_or, drop, Some, Option, sym, ap, ◌∙◌, append_assoc, append-nil, Bor}
 use Rattle.std.proofs.lemmas.List.{at_drop_more, at_drop_all, map_push}
 use Rattle.std.specs.Option.{option_map}
 use Rattle.cli.specs.Context.{NamedValue, with_pair}
 use Rattle.cli.specs.Scan.{now_of}
-use Rattle.cli.specs.Split.{Parts, parts, split_first, DataKeyParts, data_key_parts, split_data_key}
+use Rattle.cli.specs.Split.{parts, split_first, DataKeyParts, data_key_parts, split_data_key}
 use Rattle.cli.specs.declared.split.DataKeyWord.{DataKeyWord}
 use Rattle.commands.specs.Given.{put_pair, then-on, context_from, some_parts}
 

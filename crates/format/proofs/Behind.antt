@@ -1,5 +1,5 @@
 -- Behind the header of a request nothing but its own message opens, unless a piece was forged or an id used twice.
-use Rattle.std.proofs.Common.{◌≡◌, ℕ, suc, ◌+◌, true, ◌⊎◌, List, [], ◌∷◌, ◌++◌, length, sym, refl, ap, ◌∙◌, inl, inr, ⊎_elim, append_assoc}
+use Rattle.std.proofs.Common.{◌≡◌, ℕ, suc, true, ◌⊎◌, List, [], ◌∷◌, ◌++◌, length, sym, refl, ap, ◌∙◌, inl, inr, ⊎_elim, append_assoc}
 use Rattle.octets.proofs.Lists.{halves}
 use Rattle.hkdf.specs.MessageKeys.{sealing_key}
 use Rattle.format.specs.Corollaries.{ForgedOrReused, NothingElseBehindAHeader}

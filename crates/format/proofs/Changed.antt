@@ -1,5 +1,5 @@
 -- Messages whose frames were cut off, exchanged or taken from another message don't open.
-use Rattle.std.proofs.Common.{◌≡◌, ℕ, ◌+◌, ◌⊎◌, List, [], ◌∷◌, ◌++◌, length, sym, refl, ap, ◌∙◌, subst, inl, inr, ⊎_elim, append_assoc, arith, length-append}
+use Rattle.std.proofs.Common.{◌≡◌, ℕ, ◌+◌, List, [], ◌∷◌, ◌++◌, length, sym, refl, ap, ◌∙◌, subst, inl, inr, ⊎_elim, append_assoc, arith, length-append}
 use mathlib.Core.List.{flatten}
 use Rattle.octets.specs.Bytes.{to_bytes}
 use Rattle.octets.proofs.Lists.{halves}

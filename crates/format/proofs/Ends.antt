@@ -1,5 +1,5 @@
 -- A message that opens ends where it ends: nothing that goes on after it opens with the same key, and no beginning of it does.
-use Rattle.std.proofs.Common.{◌≡◌, ℕ, zero, suc, ◌+◌, ◌<◌, ◌≤◌, false, ◌⊎◌, List, [], ◌++◌, length, sym, ap, ◌∙◌, ⊎_elim, arith, length-append}
+use Rattle.std.proofs.Common.{◌≡◌, ℕ, zero, suc, ◌<◌, ◌≤◌, false, List, [], ◌++◌, length, sym, ap, ◌∙◌, ⊎_elim, arith, length-append}
 use Rattle.std.proofs.lemmas.Bool.{cases_Bool, ne_eqb}
 use Rattle.octets.specs.Bytes.{bytes_eq, drop, take}
 use Rattle.octets.proofs.Bits.{pick_false, pick_true}

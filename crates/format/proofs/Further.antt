@@ -1,5 +1,5 @@
 -- What is read from bytes is read from them as well when more follow, and more is left.
-use Rattle.std.proofs.Common.{◌≡◌, ℕ, zero, suc, ◌+◌, Bool, true, false, ◌&&◌, eqb, ltb, List, [], ◌∷◌, ◌++◌, length, sym, refl, ap, ◌∙◌, append_assoc}
+use Rattle.std.proofs.Common.{◌≡◌, ℕ, zero, suc, Bool, true, false, ◌&&◌, eqb, ltb, List, [], ◌∷◌, ◌++◌, length, sym, refl, ap, ◌∙◌, append_assoc}
 use Rattle.octets.specs.Bits.{pick}
 use Rattle.octets.specs.Bytes.{of_bytes}
 use Rattle.octets.specs.Cut.{Cut, and_then, cut, guard}

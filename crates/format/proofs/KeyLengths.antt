@@ -1,5 +1,5 @@
 -- The two keys of a message, its sealing key and its commitment, have 32 bytes.
-use Rattle.std.proofs.Common.{◌≡◌, ℕ, zero, suc, ◌+◌, ◌*◌, ◌/◌, ◌≤◌, List, [], ◌∷◌, ◌++◌, length, refl, ap, ◌∙◌, arith, length-append, length-take-le}
+use Rattle.std.proofs.Common.{◌≡◌, ℕ, zero, suc, ◌*◌, ◌/◌, ◌≤◌, List, [], ◌∷◌, ◌++◌, length, refl, ap, ◌∙◌, arith, length-append, length-take-le}
 use Rattle.octets.specs.Bytes.{drop, reversed, take, to_bytes}
 use Rattle.octets.proofs.Lists.{length-take, take_is}
 use Rattle.octets.proofs.Numbers.{length-to_bytes}

@@ -1,5 +1,5 @@
 -- Opening step by step: what opening that went well says of each step, and what one step gives.
-use Rattle.std.proofs.Common.{◌≡◌, ℕ, suc, ◌+◌, Bool, true, false, ltb, List, [], ◌∷◌, ◌++◌, length, refl, ap, ◌∙◌, arith}
+use Rattle.std.proofs.Common.{◌≡◌, ℕ, suc, Bool, true, false, ltb, List, [], ◌∷◌, ◌++◌, length, refl, ap, ◌∙◌, arith}
 use Rattle.octets.specs.Bits.{pick}
 use Rattle.octets.specs.Bytes.{bytes_eq, drop, take}
 use Rattle.octets.proofs.Bits.{pick_false, pick_true}

@@ -1,5 +1,5 @@
 -- Readers step by step: what a step that went well says, and that it goes well where it can.
-use Rattle.std.proofs.Common.{◌≡◌, ℕ, ◌+◌, Bool, true, false, leb, List, [], ◌∷◌, ◌++◌, length, sym, refl, ap, subst, arith}
+use Rattle.std.proofs.Common.{◌≡◌, ℕ, Bool, true, false, leb, List, [], ◌∷◌, ◌++◌, length, sym, refl, ap, subst, arith}
 use Rattle.std.proofs.lemmas.Bool.{leb-true}
 use Rattle.octets.specs.Bits.{pick}
 use Rattle.octets.specs.Bytes.{drop, take}

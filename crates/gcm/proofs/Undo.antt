@@ -1,5 +1,5 @@
 -- What is sealed is as long as the text, its tag 16 bytes long, and opening it gives the text.
-use Rattle.std.proofs.Common.{◌≡◌, ℕ, zero, suc, ◌+◌, ◌-◌, ◌*◌, ◌/◌, ◌<◌, ◌≤◌, min, true, ◌⊎◌, List, [], ◌∷◌, ◌++◌, length, take as takeN, drop as dropN, sym, refl, ap, ◌∙◌, ap₂, ⊎_elim, arith, length-append, take-append-drop, length-take as length-takeN, take_at, drop_at}
+use Rattle.std.proofs.Common.{◌≡◌, ℕ, zero, suc, ◌+◌, ◌-◌, ◌*◌, ◌/◌, ◌<◌, ◌≤◌, min, true, List, [], ◌∷◌, ◌++◌, length, take as takeN, drop as dropN, sym, refl, ap, ◌∙◌, ap₂, ⊎_elim, arith, length-append, take-append-drop, length-take as length-takeN, take_at, drop_at}
 use Rattle.std.proofs.lemmas.List.{append-nil, drop_all, nil_from_length, take_all}
 use Rattle.std.proofs.lemmas.Bool.{cases_lt}
 use Rattle.octets.specs.Bytes.{all_bytes, bytes_eq, take, drop, repeat, xor_bytes, to_bytes, of_bytes}

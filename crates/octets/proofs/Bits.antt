@@ -1,8 +1,8 @@
 -- The bit operations of the definitions are the library's, at every width; rotations and shifts of words.
-use Rattle.std.proofs.Common.{◌≡◌, ℕ, zero, suc, ◌+◌, ◌-◌, ◌*◌, ◌/◌, ◌%◌, ◌^◌, ◌<◌, ◌≤◌, min, Bool, true, false, ◌&&◌, eqb, sym, refl, ap, ◌∙◌, subst, ap₂, le_of_suc-le-suc, not-suc-le-zero, add-zero, mod-lt, zero-lt-suc, mul_comm, add_comm, pow-suc, arith, pow_pos, pow-add, shr_lt}
+use Rattle.std.proofs.Common.{◌≡◌, ℕ, zero, suc, ◌+◌, ◌*◌, ◌/◌, ◌%◌, ◌^◌, ◌<◌, min, Bool, true, false, ◌&&◌, eqb, sym, refl, ap, ◌∙◌, subst, ap₂, le_of_suc-le-suc, not-suc-le-zero, add-zero, mod-lt, zero-lt-suc, mul_comm, add_comm, pow-suc, arith, shr_lt}
 use native.Mathlib.Nat.{mul-mod_left}
 use lib.Arith.{lt-one}
-use lib.Bits.{bit_and, bit_or, bit_xor, and_step, xor_step, or_shifted_r, and_lt, xor_lt, differ}
+use lib.Bits.{bit_and, bit_or, bit_xor, and_step, xor_step, or_shifted_r, xor_lt, differ}
 use lib.Pow.{mod-pow-add, shl-shr}
 use Rattle.octets.specs.Bits.{pick, bits_and, bits_xor, pow2}
 

@@ -1,9 +1,9 @@
 -- Laws of cutting from the front of bytes, and of steps that give none or one.
-use Rattle.std.proofs.Common.{◌≡◌, ℕ, zero, suc, ◌+◌, ◌-◌, ◌*◌, ◌<◌, ◌≤◌, Bool, true, false, ◌&&◌, leb, ◌⊎◌, List, [], ◌∷◌, ◌++◌, length, sym, refl, ap, ◌∙◌, inl, inr, ⊎_elim, arith, length-append, length-take-le, take_at, drop_at}
+use Rattle.std.proofs.Common.{◌≡◌, ℕ, ◌<◌, ◌≤◌, Bool, true, false, List, [], ◌∷◌, ◌++◌, length, sym, refl, ap, ◌∙◌, ⊎_elim, arith, length-append, length-take-le, take_at, drop_at}
 use lib.ListN as L
 use Rattle.std.proofs.lemmas.Bool.{le-leb, lt-leb, cases_lt}
 use Rattle.octets.specs.Bits.{pick}
-use Rattle.octets.specs.Bytes.{take, drop, of_bytes}
+use Rattle.octets.specs.Bytes.{of_bytes}
 use Rattle.octets.specs.Cut.{Cut, cut, and_then, guard, CutNumber, cut_number}
 use Rattle.octets.proofs.Lists.{take_is, drop_is}
 

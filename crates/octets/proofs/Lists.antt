@@ -1,5 +1,5 @@
 -- The list functions of the definitions are the library's, two lists joined can be taken apart, and tables are known at each place.
-use Rattle.std.proofs.Common.{◌≡◌, ℕ, zero, suc, ◌+◌, ◌-◌, ◌*◌, ◌<◌, ◌≤◌, List, [], ◌∷◌, ◌++◌, reverse, length, sym, refl, ap, ◌∙◌, ap₂, add-zero, zero-add, arith, length-take-le, take_at, drop_at}
+use Rattle.std.proofs.Common.{◌≡◌, ℕ, zero, suc, ◌+◌, ◌-◌, ◌<◌, ◌≤◌, List, [], ◌∷◌, ◌++◌, reverse, length, sym, refl, ap, ◌∙◌, ap₂, add-zero, zero-add, arith, length-take-le, take_at, drop_at}
 use mathlib.Core.List.{reverse-append}
 use lib.ListN as L
 use Rattle.std.proofs.lemmas.List.{reverse-reverse, drop_more}

@@ -1,5 +1,5 @@
 -- The order of byte strings: of two that differ one comes before the other.
-use Rattle.std.proofs.Common.{◌≡◌, ℕ, ◌≤◌, Bool, true, false, ◌&&◌, ◌||◌, eqb, ltb, List, [], ◌∷◌, sym, refl, ⊎_elim, arith}
+use Rattle.std.proofs.Common.{◌≡◌, ℕ, ◌≤◌, Bool, true, false, ◌&&◌, eqb, ltb, List, [], ◌∷◌, sym, refl, ⊎_elim, arith}
 use Rattle.std.proofs.lemmas.Bool.{and_from, ltb-false, lt-ltb, eq-eqb, or_parts, or_left, or_right, cases_eq}
 use Rattle.octets.specs.Bytes.{bytes_eq, bytes_lt}
 

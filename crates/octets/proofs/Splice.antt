@@ -1,9 +1,9 @@
 -- Laws of bytes written into the middle of others.
-use Rattle.std.proofs.Common.{◌≡◌, ℕ, ◌+◌, ◌-◌, ◌<◌, ◌≤◌, List, [], ◌∷◌, ◌++◌, length, take, drop, Some, None, Option, sym, refl, ap, ◌∙◌, append_assoc, add-zero, zero-add, arith, length-append, length-drop, take-append-drop, length-take-le, drop-drop, take_at, drop_at}
+use Rattle.std.proofs.Common.{◌≡◌, ℕ, ◌+◌, ◌-◌, ◌≤◌, List, [], ◌++◌, length, take, drop, Some, None, Option, sym, refl, ap, ◌∙◌, append_assoc, add-zero, zero-add, arith, length-append, length-drop, take-append-drop, length-take-le, drop-drop, take_at, drop_at}
 use borrow.Rule.Slice.PartMut.{put_mid}
 use lib.Seq.{drop-append-add}
 use Rattle.std.proofs.lemmas.List.{drop_all, take_rest, append-nil}
-use Rattle.octets.specs.Splice.{spliced, Written, NoRoom, Put}
+use Rattle.octets.specs.Splice.{spliced, Written, Put}
 
 -- nothing written, and everything written
 pub spliced_none : (old : List ℕ) (at : ℕ) → spliced old at [] ≡ old

@@ -7,7 +7,7 @@ use Rattle.octets.specs.Bits.{pick}
 use Rattle.octets.specs.Bytes.{bytes_eq, of_bytes, to_bytes}
 use Rattle.octets.specs.Cut.{Cut, cut, and_then, guard}
 use Rattle.octets.proofs.Cuts.{cut_some}
-use Rattle.format.specs.Reading.{ReadFrame, read_final, read_frame, read_regular}
+use Rattle.format.specs.Reading.{read_final, read_frame, read_regular}
 use Rattle.format.specs.Request.{end_marker}
 use Rattle.format.proofs.Steps.{cut_is}
 use Rattle.format.proofs.Further.{frame_on}

@@ -7,16 +7,12 @@ use Rattle.octets.specs.Bytes.{all_bytes}
 use Rattle.octets.proofs.Bits.{pick_true, pick_false}
 use Rattle.octets.proofs.Cuts.{and_then_none, cut_none}
 use Rattle.gcm.specs.Key.{key_of}
-use Rattle.format.specs.Header.{Header}
 use Rattle.format.specs.Reading.{ReadFrame, read_frame}
-use Rattle.format.specs.Opening.{not_opened}
 use Rattle.format.proofs.Frames.{frame_read}
 use Rattle.format.proofs.Further.{frame_grows, frame_on}
 use Rattle.frames.specs.Frame.{frame_text}
 use Rattle.opening.specs.Refusal.{refusal_number}
-use Rattle.opening.specs.Unlocked.{Matches, open_rest}
 use Rattle.opening.specs.Opener.{comes_to, Stepped, Refused}
-use Rattle.opening.specs.declared.refusal.OpenRefusal.{OpenRefusal}
 use Rattle.opening.specs.declared.refusal.OpenRefusal.TheVariants.{OutTooShort, Frame, FrameTag, AfterFinal}
 use Rattle.opening.specs.declared.state.Opener.{Opener}
 use Rattle.opening.specs.declared.state.FrameText.{FrameText}

@@ -1,5 +1,5 @@
 -- The calls of an opener, joined: what they come to together, by induction over the calls.
-use Rattle.std.proofs.Common.{◌≡◌, ℕ, zero, suc, Bool, true, false, List, [], ◌∷◌, ◌++◌, length, take, drop, Ok, Err, Result, sym, refl, ap, ◌∙◌, subst, ⊎_elim, append_assoc}
+use Rattle.std.proofs.Common.{◌≡◌, ℕ, zero, suc, List, [], ◌∷◌, ◌++◌, length, take, drop, Ok, Err, Result, sym, ap, ◌∙◌, subst, ⊎_elim, append_assoc}
 use Rattle.std.proofs.lemmas.List.{append-nil, drop-append-le}
 use Rattle.std.proofs.lemmas.Bool.{cases_Bool}
 use Rattle.octets.proofs.Bits.{pick_true, pick_false}
@@ -11,7 +11,7 @@ use Rattle.format.specs.Opening.{open_frames, opened, unseal_frame}
 use Rattle.format.proofs.Opening.{last_some, refused_is_opened, with_frame_some, with_text_some}
 use Rattle.opening.specs.Unlocked.{Matches}
 use Rattle.opening.specs.Answer.{opening}
-use Rattle.opening.specs.Opener.{Begun, Ends, comes_to, step_len, step_taken}
+use Rattle.opening.specs.Opener.{Ends, comes_to, step_len, step_taken}
 use Rattle.opening.specs.Joined.{Call, Calls, FramesJoin, after, end_answer, left, texts}
 use Rattle.opening.specs.declared.refusal.OpenRefusal.{OpenRefusal}
 use Rattle.opening.specs.declared.state.Opener.{Opener}

@@ -2,7 +2,6 @@
 use Rattle.std.specs.Prelude.{◌≡◌, ℕ, suc, List, [], length, take, Ok, Err, Result}
 use Rattle.gcm.specs.Key.{key_of}
 use Rattle.format.specs.Header.{Header}
-use Rattle.format.specs.Reading.{ReadHeader}
 use Rattle.format.specs.Opening as Opening
 use Rattle.format.specs.Opening.{opened, open_frames, open_message, with_header}
 use Rattle.octets.specs.Bits.{pick}

@@ -1,4 +1,4 @@
-use Rattle.std.proofs.Common.{◌≡◌, map, vec_items, sym, refl, ap, ◌∙◌}
+use Rattle.std.proofs.Common.{map, vec_items, sym, ap, ◌∙◌}
 use Rattle.cli.specs.Context.{pair_of, rising}
 use Rattle.cli.specs.Scan.{now_of}
 use Rattle.commands.specs.Given.{context_from}

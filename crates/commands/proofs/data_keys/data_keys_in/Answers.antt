@@ -1,4 +1,4 @@
-use Rattle.std.proofs.Common.{◌≡◌, not, ◌++◌, map, vec_items, sym, ap, ◌∙◌}
+use Rattle.std.proofs.Common.{not, ◌++◌, map, vec_items, sym, ap, ◌∙◌}
 use Rattle.std.proofs.lemmas.Bool.{cond-true}
 use Rattle.cli.specs.Scan.{now_of}
 use Rattle.cli.specs.Split.{split_data_key}

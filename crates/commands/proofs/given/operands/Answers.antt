@@ -1,4 +1,4 @@
-use Rattle.std.proofs.Common.{◌≡◌, [], ◌∷◌, vec_items, sym, ◌∙◌, ap₂, arith}
+use Rattle.std.proofs.Common.{[], ◌∷◌, vec_items, sym, ◌∙◌, ap₂, arith}
 use Rattle.commands.proofs.Lists.{two}
 use Rattle.commands.proofs.given.operands.Goals as goal
 

@@ -1,4 +1,4 @@
-use Rattle.std.proofs.Common.{◌≡◌, [], ◌∷◌, vec_items, sym, ap, ◌∙◌, arith}
+use Rattle.std.proofs.Common.{[], ◌∷◌, vec_items, sym, ap, ◌∙◌, arith}
 use Rattle.commands.proofs.Lists.{none, one}
 use Rattle.commands.proofs.given.sole.Goals as goal
 

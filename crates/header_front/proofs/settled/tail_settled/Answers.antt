@@ -1,4 +1,4 @@
-use Rattle.std.proofs.Common.{sym, ◌∙◌, arith}
+use Rattle.std.proofs.Common.{sym, arith}
 use Rattle.std.proofs.lemmas.Bool.{both_ways, leb-true, ltb-true}
 use Rattle.header_front.proofs.Settling.{tail_settles}
 use Rattle.header_front.proofs.settled.tail_settled.Goals as goal

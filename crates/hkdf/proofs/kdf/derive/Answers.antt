@@ -1,4 +1,4 @@
-use Rattle.std.proofs.Common.{◌≡◌, ℕ, List, [], ◌∷◌, ◌++◌, length, take, sym, ap, ◌∙◌, ap₂}
+use Rattle.std.proofs.Common.{ℕ, List, [], ◌∷◌, ◌++◌, length, take, sym, ap, ◌∙◌, ap₂}
 use native.Mathlib.Nat.{sub-zero}
 use Rattle.octets.proofs.Lists.{take_is}
 use Rattle.hkdf.specs.Hmac.{hmac}

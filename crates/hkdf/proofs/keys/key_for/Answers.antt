@@ -1,4 +1,4 @@
-use Rattle.std.proofs.Common.{◌≡◌, ℕ, List, [], ◌∷◌, ◌++◌, take, sym, ap, ◌∙◌}
+use Rattle.std.proofs.Common.{ℕ, List, [], ◌∷◌, ◌++◌, take, sym, ap, ◌∙◌}
 use Rattle.octets.proofs.Lists.{take_is}
 use Rattle.hkdf.specs.Hmac.{hmac}
 use Rattle.hkdf.specs.Hkdf.{hkdf}

@@ -1,4 +1,4 @@
-use Rattle.std.proofs.Common.{◌≡◌, length, ◌∙◌, arith}
+use Rattle.std.proofs.Common.{◌∙◌, arith}
 use Rattle.std.proofs.lemmas.Result.{err_from_is_err_and}
 use Rattle.header_read.specs.Parts.{header_in, read_header_in}
 use Rattle.opening.proofs.Unlocking.{split, opening_none, opening_some}

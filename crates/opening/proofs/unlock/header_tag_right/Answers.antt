@@ -1,4 +1,4 @@
-use Rattle.std.proofs.Common.{◌≡◌, ◌-◌, length, take, sym, refl, ap, ◌∙◌, arith}
+use Rattle.std.proofs.Common.{ap, ◌∙◌, arith}
 use native.Mathlib.Nat.{sub-zero}
 use Rattle.octets.specs.Bytes.{bytes_eq}
 use Rattle.gcm.specs.Key.{key_of}

@@ -1,4 +1,4 @@
-use Rattle.std.proofs.Common.{◌≡◌, [], sym, refl, ◌∙◌, arith}
+use Rattle.std.proofs.Common.{[], sym, refl, ◌∙◌, arith}
 use Rattle.gcm.specs.Key.{key_of}
 use Rattle.header_read.specs.Parts.{header_in, read_header_in}
 use Rattle.opening.proofs.Unlocking.{split, other_commitment, wrong_tag, unlocked}

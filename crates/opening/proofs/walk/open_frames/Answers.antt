@@ -1,4 +1,4 @@
-use Rattle.std.proofs.Common.{◌≡◌, ◌+◌, ◌-◌, ◌≤◌, [], length, take, sym, refl, ◌∙◌, arith}
+use Rattle.std.proofs.Common.{◌+◌, ◌-◌, ◌≤◌, [], length, take, sym, ◌∙◌, arith}
 use Rattle.octets.proofs.Bits.{pick_true, pick_false}
 use Rattle.gcm.specs.Key.{key_of}
 use Rattle.frames.specs.Next.{frame_of}

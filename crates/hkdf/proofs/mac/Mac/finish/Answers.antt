@@ -1,4 +1,4 @@
-use Rattle.std.proofs.Common.{◌≡◌, ℕ, List, [], ◌++◌, ap, ◌∙◌, ap₂}
+use Rattle.std.proofs.Common.{ℕ, List, [], ◌++◌, ◌∙◌, ap₂}
 use Rattle.sha512.specs.Sha512.{sha512}
 use Rattle.hkdf.specs.Hmac.{hmac}
 use Rattle.hkdf.proofs.mac.Mac.finish.Goals as goal

@@ -1,4 +1,4 @@
-use Rattle.std.proofs.Common.{◌≡◌, ℕ, List, ◌++◌, sym, subst}
+use Rattle.std.proofs.Common.{ℕ, List, subst}
 use Rattle.std.proofs.lemmas.List.{append_assoc}
 use Rattle.sha512.specs.Held.{Fed}
 use Rattle.hkdf.specs.Hmac.{each_xor, block_key}

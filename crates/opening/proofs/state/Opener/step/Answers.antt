@@ -1,4 +1,4 @@
-use Rattle.std.proofs.Common.{◌≡◌, length, inl, inr, arith}
+use Rattle.std.proofs.Common.{length, inl, inr, arith}
 use Rattle.gcm.specs.Key.{key_of}
 use Rattle.frames.specs.Next.{frame_of}
 use Rattle.opening.proofs.Unlocking.{all_bytes_of}
