@@ -41,7 +41,7 @@ pub struct Lists {
     pub data_keys: Vec<OwnedDataKey>,
 }
 
-fn read_pairs(words: &mut Words, heap: Global) -> anyhow::Result<Vec<OwnedPair>> {
+pub fn read_pairs(words: &mut Words, heap: Global) -> anyhow::Result<Vec<OwnedPair>> {
     let mut pairs = Vec::new(heap);
     for _ in 0..words.number()? {
         let name = words.bytes(heap)?;
@@ -62,7 +62,7 @@ fn read_data_key(words: &mut Words, heap: Global) -> anyhow::Result<OwnedDataKey
     })
 }
 
-fn read_data_keys(words: &mut Words, heap: Global) -> anyhow::Result<Vec<OwnedDataKey>> {
+pub fn read_data_keys(words: &mut Words, heap: Global) -> anyhow::Result<Vec<OwnedDataKey>> {
     let mut data_keys = Vec::new(heap);
     for _ in 0..words.number()? {
         data_keys.push(read_data_key(words, heap)?)?;
@@ -121,7 +121,10 @@ pub struct Lent<'a> {
     pub data_keys: Vec<EncryptedDataKey<'a, 'a, 'a>>,
 }
 
-fn lend_pairs<'a>(heap: Global, owned: &'a [OwnedPair]) -> Result<Vec<Pair<'a, 'a>>, AllocError> {
+pub fn lend_pairs<'a>(
+    heap: Global,
+    owned: &'a [OwnedPair],
+) -> Result<Vec<Pair<'a, 'a>>, AllocError> {
     let mut pairs = Vec::new(heap);
     for p in owned {
         pairs.push(Pair {
@@ -132,7 +135,7 @@ fn lend_pairs<'a>(heap: Global, owned: &'a [OwnedPair]) -> Result<Vec<Pair<'a, '
     Ok(pairs)
 }
 
-fn lend_data_keys<'a>(
+pub fn lend_data_keys<'a>(
     heap: Global,
     owned: &'a [OwnedDataKey],
 ) -> Result<Vec<EncryptedDataKey<'a, 'a, 'a>>, AllocError> {
