@@ -20,7 +20,8 @@ PLAIN = {"after", "count", "digit", "digits-on", "end", "frames", "joined", "las
          "round", "rounds", "some_of", "start", "told", "value", "within", "word", "frame-length"}
 # bit_and and bit_xor are the library's, of two numbers of any size
 SPECIAL = {"bit-and": "bits_and", "bit-xor": "bits_xor", "bit-and-is": "bits_and_is", "bit-xor-is": "bits_xor_is", "bit-xor-lt": "bits_xor_lt",
-           "bit-xor-twice": "bits_xor_twice", "product-xor-left": "product-xor_left", "data-keys-some-of": "data_keys_some_of", "read-frame-length": "read_frame_length"}
+           "bit-xor-twice": "bits_xor_twice", "in-frames": "in_frames", "then-frames": "then_frames", "then-on": "then_on", "then-read": "then_read",
+           "getD-xor": "get_or-xor_bytes", "product-xor-left": "product-xor_left", "data-keys-some-of": "data_keys_some_of", "read-frame-length": "read_frame_length"}
 MADE = ("in-", "if-", "else-", "then-", "loop-", "returns", "overflow_", "bounds-", "match-")
 
 
@@ -102,7 +103,7 @@ def renamings():
             words.add(name)
     out = {}
     for name, kinds in found.items():
-        if "-" not in name or "goal" in kinds or name.startswith(MADE):
+        if "-" not in name or "goal" in kinds or name.startswith(MADE) and name not in SPECIAL:
             continue
         if "type" in kinds:
             out[name] = camel(name)

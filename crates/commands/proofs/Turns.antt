@@ -6,7 +6,7 @@ use Rattle.cli.specs.Context.{NamedValue, with_pair}
 use Rattle.cli.specs.Scan.{now_of}
 use Rattle.cli.specs.Split.{parts, split_first, DataKeyParts, data_key_parts, split_data_key}
 use Rattle.cli.specs.declared.split.DataKeyWord.{DataKeyWord}
-use Rattle.commands.specs.Given.{put_pair, then-on, context_from, some_parts}
+use Rattle.commands.specs.Given.{put_pair, then_on, context_from, some_parts}
 
 pub pair_more : (ws : List (Bor (List ℕ))) (i : ℕ) (d n v : Bor (List ℕ)) (ps qs : List NamedValue) → i < length ws → option_map parts (Some (n, v)) ≡ split_first 61 (get_or ws i d).now
     → with_pair (record { name = n.now; value = v.now }) ps ≡ Some qs → context_from qs (map now_of (drop (i + 1) ws)) ≡ context_from ps (map now_of (drop i ws))
@@ -14,8 +14,8 @@ unfolding context_from
 pair_more ws i d n v ps qs h s e =
     sym
     (at_drop_more (λ xs. context_from ps (map now_of xs)) ws i d h
-    ∙ ap (λ o. then-on (put_pair o ps) (λ rs. context_from rs (map now_of (drop (i + 1) ws)))) (sym s)
-    ∙ ap (λ o. then-on o (λ rs. context_from rs (map now_of (drop (i + 1) ws)))) e)
+    ∙ ap (λ o. then_on (put_pair o ps) (λ rs. context_from rs (map now_of (drop (i + 1) ws)))) (sym s)
+    ∙ ap (λ o. then_on o (λ rs. context_from rs (map now_of (drop (i + 1) ws)))) e)
 
 pub pairs_end : (ws : List (Bor (List ℕ))) (i : ℕ) (ps : List NamedValue) → length ws ≤ i → context_from ps (map now_of (drop i ws)) ≡ Some ps
 unfolding context_from

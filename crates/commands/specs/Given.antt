@@ -19,13 +19,13 @@ abbrev pub put_pair : Option Parts → List NamedValue → Option (List NamedVal
 put_pair None ps = None
 put_pair (Some p) ps = with_pair (record { name = p.before; value = p.after }) ps
 
-abbrev pub then-on : Option (List NamedValue) → (List NamedValue → Option (List NamedValue)) → Option (List NamedValue)
-then-on None f = None
-then-on (Some ps) f = f ps
+abbrev pub then_on : Option (List NamedValue) → (List NamedValue → Option (List NamedValue)) → Option (List NamedValue)
+then_on None f = None
+then_on (Some ps) f = f ps
 
 unfoldable pub context_from : List NamedValue → List (List ℕ) → Option (List NamedValue)
 context_from ps [] = Some ps
-context_from ps (t ∷ ts) = then-on (put_pair (split_first 61 t) ps) (λ qs. context_from qs ts)
+context_from ps (t ∷ ts) = then_on (put_pair (split_first 61 t) ps) (λ qs. context_from qs ts)
 
 abbrev pub some_parts : DataKeyWord → Option DataKeyParts
 some_parts w = Some (data_key_parts w)

@@ -85,14 +85,14 @@ data_keys_read (suc n) bs hs more bb e =
     let s = and_then_gave (read_data_keys n w.rest) _ hs more w.then in
     let r : DataKeysRead n w.rest s.one = data_keys_read n w.rest s.one s.more bw s.here in
     let p : EncryptedDataKey = record { provider_id = k.front; provider_info = v.front; ciphertext = w.front } in
-    let bytes-then : List ℕ = data_keys_bytes s.one.encrypted_data_keys in
+    let bytes_then : List ℕ = data_keys_bytes s.one.encrypted_data_keys in
     subst (λ x. DataKeysRead (suc n) bs x) (first_is_first (record { encrypted_data_keys = p ∷ s.one.encrypted_data_keys; rest = s.one.rest }) hs [] more s.then)
     (record {
       written =
-          append_assoc (field k.front) (field v.front ++ (field w.front ++ bytes-then)) s.one.rest
+          append_assoc (field k.front) (field v.front ++ (field w.front ++ bytes_then)) s.one.rest
           ∙ (ap (λ xs. field k.front ++ xs)
-          (append_assoc (field v.front) (field w.front ++ bytes-then) s.one.rest
-          ∙ (ap (λ xs. field v.front ++ xs) (append_assoc (field w.front) bytes-then s.one.rest ∙ (ap (λ xs. field w.front ++ xs) r.written ∙ w.whole)) ∙ v.whole))
+          (append_assoc (field v.front) (field w.front ++ bytes_then) s.one.rest
+          ∙ (ap (λ xs. field v.front ++ xs) (append_assoc (field w.front) bytes_then s.one.rest ∙ (ap (λ xs. field w.front ++ xs) r.written ∙ w.whole)) ∙ v.whole))
           ∙ k.whole);
       short_all =
           and_from (fits_field k.front && (fits_field v.front && fits_field w.front)) (short_data_keys s.one.encrypted_data_keys)

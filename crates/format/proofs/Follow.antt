@@ -26,7 +26,7 @@ use Rattle.format.proofs.Opening.{after, frames_last, frames_more, last_some, re
 use Rattle.format.proofs.Pieces.{In, Numbered, aad_is, all_both, in_all, number_is, numbered_in, numbered_of}
 use Rattle.format.proofs.Steps.{none_is_one}
 
--- what was sealed opens to its text, whatever is context-body beside
+-- what was sealed opens to its text, whatever is said beside
 picked : (b : Bool) (x u : List ℕ) (us : List (List ℕ)) → pick b (x ∷ []) [] ≡ u ∷ us → x ≡ u
 unfolding pick
 picked true x u us e = cc

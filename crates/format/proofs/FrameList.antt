@@ -84,7 +84,7 @@ chain (suc m) dk id size n t lk low hm hn ht =
 
 pub own_chain : (r : Request) → Good r → Chain r.frame_length 1 (frames_of r)
 own_chain r g =
-    let f = g.in-frames in
+    let f = g.in_frames in
     let l = g.fits.low in
     chain (suc (length r.text)) (own_key r) r.id r.frame_length 1 r.text (length-sealing_key r.key r.id) l (omega arith) (omega arith) (omega arith)
 

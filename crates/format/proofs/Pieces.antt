@@ -158,7 +158,7 @@ numbered_in (suc k) dk h n bs b = go (read_frame h.frame_length n bs) (λ f fs e
         let w = p f fs refl in
         (framed_first dk h.id f.last n f.sealed (omega arith), rest f f.last (a f.rest (all_bytes_parts (frame_written n f) f.rest (rw w.written b)).1))
 
--- what is context-body beside a frame tells whose it is, and whether it's the last
+-- what is said beside a frame tells whose it is, and whether it's the last
 abbrev pub label_of : Bool → List ℕ
 label_of last = pick last final_label regular_label
 

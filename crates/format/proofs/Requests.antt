@@ -18,7 +18,7 @@ pub record Good (r : Request) : Type 0 where
   pub text_short : length r.text < 9223372036854775808
   pub rises : rising r.context ≡ true
   pub some_keys : 0 < length r.encrypted_data_keys
-  pub in-frames : length r.text ≤ 4294967295 * r.frame_length
+  pub in_frames : length r.text ≤ 4294967295 * r.frame_length
 
 picked_zero : (b : Bool) (x y : ℕ) → pick b x (suc y) ≡ 0 → (b ≡ true) × (x ≡ 0)
 unfolding pick
@@ -57,7 +57,7 @@ good_is r re tu =
       text_short = ltb-true (length r.text) 9223372036854775808 f1.1;
       rises = b2.0;
       some_keys = ltb-true 0 (length r.encrypted_data_keys) d2.0;
-      in-frames = leb-true (length r.text) (end_marker * r.frame_length) f1.0;
+      in_frames = leb-true (length r.text) (end_marker * r.frame_length) f1.0;
     }
 
 pub good_among : (r : Request) (rs : List Request) → all_good rs ≡ true → Among r rs → Good r

@@ -108,7 +108,7 @@ sealed_opens r re tu =
     let g : Good r = good_is r re tu in
     let dk : List ℕ = own_key r in
     let l = length_frames (suc (length r.text)) dk r.id r.frame_length 1 r.text (length-sealing_key r.key r.id) g.fits.low (omega arith) in
-    let f = g.in-frames in
+    let f = g.in_frames in
     ap (λ xs. with_header xs (open_read r.key)) (reads_own r g)
     ∙ (pick_true (bytes_eq (commitment r.key r.id) (commitment r.key r.id)) _ _ (bytes_eq_refl (commitment r.key r.id))
     ∙ (pick_true (header_tag_right dk (own_header r)) _ _ (bytes_eq_refl (own_tag r))

@@ -52,7 +52,7 @@ unfoldable pub NoBeginningOpens : Type 0
 NoBeginningOpens =
     (k bs text other : List ℕ) (context ctx : List Pair) (n : ℕ) → open_message k bs ≡ opened context text → n < length bs → (open_message k (take n bs) ≡ opened ctx other) → ⊥
 
--- 6. opening a sealed piece gives the text: stated and proved of one piece, in crate gcm (Open-undoes-seal)
+-- 6. opening a sealed piece gives the text: stated and proved of one piece, in crate gcm (OpenUndoesSeal)
 
 -- 7. no two pieces of a message are sealed with the same nonce
 unfoldable pub nonce_among : Piece → List Piece → Bool

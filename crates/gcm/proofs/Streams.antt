@@ -9,7 +9,7 @@ use Rattle.octets.specs.Bits.{bits_xor}
 use Rattle.octets.specs.Bytes.{take, drop, xor_bytes, to_bytes}
 use Rattle.octets.proofs.Bits.{bits_xor_is}
 use Rattle.octets.proofs.Lists.{take_is, drop_is, elements, elements_are}
-use Rattle.octets.proofs.XorBytes.{length-xor, getD_xor}
+use Rattle.octets.proofs.XorBytes.{length-xor, get_or-xor_bytes}
 use Rattle.aes256.specs.Aes.{aes}
 use Rattle.gcm.specs.Gcm.{ctr_blocks}
 
@@ -29,7 +29,7 @@ part_more src dst key now at n j a b hk hs hd hj ea eb ha hb e =
     let l : length (takeN n (dropN at src)) ≡ n = length-take-le n (dropN at src) (omega (arith, length-drop at src)) in
     let g : get_or (takeN n (dropN at src)) j 0 ≡ a = get_or-take n (dropN at src) j 0 hj ∙ (get_or-drop at src j 0 ∙ sym ea) in
     let x : get_or (part src at n key) j 0 ≡ bit_xor a b =
-    getD_xor (takeN n (dropN at src)) key j (omega arith) (omega arith) ∙ (ap₂ (λ p q. bits_xor 8 p q) g (sym eb) ∙ bits_xor_is 8 a b ha hb) in
+    get_or-xor_bytes (takeN n (dropN at src)) key j (omega arith) (omega arith) ∙ (ap₂ (λ p q. bits_xor 8 p q) g (sym eb) ∙ bits_xor_is 8 a b ha hb) in
     let m : length (part src at n key) ≡ n = length_part src key at n hk hs in
     ap₂ (λ p q. set p (at + j) q) e (sym x) ∙ paste_more dst at (part src at n key) j 0 (omega arith) (omega arith)
 

@@ -64,7 +64,7 @@ times_power-times_power m (suc n) v =
     let e : suc (n + m) ≡ suc n + m = omega arith in
     times_power-times_power m n (times_x v) ∙ ap (λ k. times_power k v) e
 
--- four-words words of 32 bits, the high one first
+-- four words of 32 bits, the high one first
 pub product_by_words : (hi lo h : ℕ) → hi < 2 ^ 64 → lo < 2 ^ 64
     → product_steps 32 (lo % 2 ^ 32) (times_power 96 h) (product_steps 32 (lo / 2 ^ 32) (times_power 64 h) (product_steps 32 (hi % 2 ^ 32) (times_power 32 h) (product_steps 32 (hi / 2 ^ 32) (times_power 0 h) 0)))
     ≡ product_steps 128 (hi * 2 ^ 64 + lo) h 0

@@ -1,4 +1,4 @@
--- The product, step by step. `product-steps` is opened only at an open count, since at 128 it would unroll.
+-- The product, step by step. `product_steps` is opened only at an open count, since at 128 it would unroll.
 use Rattle.std.proofs.Common.{◌≡◌, ℕ, zero, suc, ◌+◌, ◌-◌, ◌/◌, ◌%◌, ◌<◌, ◌≤◌, eqb, sym, refl, ap, ◌∙◌, ap₂, arith}
 use Rattle.octets.specs.Bits.{pick, bits_xor, pow2}
 use Rattle.ghash.specs.Field.{product_steps}

@@ -97,30 +97,30 @@ field_grown bs more x xs e =
     ∙ cut_front (of_bytes c.front) x.front (x.rest ++ more) p.0
 
 module _ (read : List Pair → List ℕ → List ReadHeader) (rest : List ℕ) (h : (ps : List Pair) → Settles rest (read ps)) (more : List ℕ) where
-  abbrev then-read : ReadPairs → List ReadHeader
-  then-read y = read y.pairs y.rest
+  abbrev then_read : ReadPairs → List ReadHeader
+  then_read y = read y.pairs y.rest
 
-  guarded : (b : Bool) (ps : List Pair) → and_then (guard b (record { pairs = ps; rest = rest ++ more } ∷ [])) then-read ≡ with_more more (and_then (guard b (record { pairs = ps; rest = rest } ∷ [])) then-read)
+  guarded : (b : Bool) (ps : List Pair) → and_then (guard b (record { pairs = ps; rest = rest ++ more } ∷ [])) then_read ≡ with_more more (and_then (guard b (record { pairs = ps; rest = rest } ∷ [])) then_read)
   unfolding guard and_then
   guarded true ps = h ps more
   guarded false ps = refl
 
   paired : (g : ReadPairs → Bool) (xs : List ReadPairs)
-      → and_then (and_then xs (λ ps. guard (g ps) (record { pairs = ps.pairs; rest = rest ++ more } ∷ []))) then-read ≡ with_more more (and_then (and_then xs (λ ps. guard (g ps) (record { pairs = ps.pairs; rest = rest } ∷ []))) then-read)
+      → and_then (and_then xs (λ ps. guard (g ps) (record { pairs = ps.pairs; rest = rest ++ more } ∷ []))) then_read ≡ with_more more (and_then (and_then xs (λ ps. guard (g ps) (record { pairs = ps.pairs; rest = rest } ∷ []))) then_read)
   unfolding and_then
   paired g [] = refl
   paired g (ps ∷ xs) = guarded (g ps) ps.pairs
 
   counted : (g : ReadPairs → Bool) (p : Cut → List ReadPairs) (xs : List Cut)
-      → and_then (and_then xs (λ n. and_then (p n) (λ ps. guard (g ps) (record { pairs = ps.pairs; rest = rest ++ more } ∷ [])))) then-read
-      ≡ with_more more (and_then (and_then xs (λ n. and_then (p n) (λ ps. guard (g ps) (record { pairs = ps.pairs; rest = rest } ∷ [])))) then-read)
+      → and_then (and_then xs (λ n. and_then (p n) (λ ps. guard (g ps) (record { pairs = ps.pairs; rest = rest ++ more } ∷ [])))) then_read
+      ≡ with_more more (and_then (and_then xs (λ n. and_then (p n) (λ ps. guard (g ps) (record { pairs = ps.pairs; rest = rest } ∷ [])))) then_read)
   unfolding and_then
   counted g p [] = refl
   counted g p (n ∷ xs) = paired g (p n)
 
   chosen : (b : Bool) (g : ReadPairs → Bool) (p : Cut → List ReadPairs) (xs : List Cut)
-      → and_then (pick b (record { pairs = []; rest = rest ++ more } ∷ []) (and_then xs (λ n. and_then (p n) (λ ps. guard (g ps) (record { pairs = ps.pairs; rest = rest ++ more } ∷ []))))) then-read
-      ≡ with_more more (and_then (pick b (record { pairs = []; rest = rest } ∷ []) (and_then xs (λ n. and_then (p n) (λ ps. guard (g ps) (record { pairs = ps.pairs; rest = rest } ∷ []))))) then-read)
+      → and_then (pick b (record { pairs = []; rest = rest ++ more } ∷ []) (and_then xs (λ n. and_then (p n) (λ ps. guard (g ps) (record { pairs = ps.pairs; rest = rest ++ more } ∷ []))))) then_read
+      ≡ with_more more (and_then (pick b (record { pairs = []; rest = rest } ∷ []) (and_then xs (λ n. and_then (p n) (λ ps. guard (g ps) (record { pairs = ps.pairs; rest = rest } ∷ []))))) then_read)
   unfolding pick and_then
   chosen true g p xs = h [] more
   chosen false g p xs = counted g p xs

@@ -11,12 +11,12 @@ length-xor [] ys h = refl
 length-xor (x ∷ xs) [] h = omega arith
 length-xor (x ∷ xs) (y ∷ ys) h = ap suc (length-xor xs ys (omega arith))
 
-pub getD_xor : (xs ys : List ℕ) (j : ℕ) → j < length xs → j < length ys → get_or (xor_bytes xs ys) j 0 ≡ bits_xor 8 (get_or xs j 0) (get_or ys j 0)
+pub get_or-xor_bytes : (xs ys : List ℕ) (j : ℕ) → j < length xs → j < length ys → get_or (xor_bytes xs ys) j 0 ≡ bits_xor 8 (get_or xs j 0) (get_or ys j 0)
 unfolding xor_bytes
-getD_xor [] ys j h k = omega arith
-getD_xor (x ∷ xs) [] j h k = omega arith
-getD_xor (x ∷ xs) (y ∷ ys) zero h k = refl
-getD_xor (x ∷ xs) (y ∷ ys) (suc j) h k = getD_xor xs ys j (omega arith) (omega arith)
+get_or-xor_bytes [] ys j h k = omega arith
+get_or-xor_bytes (x ∷ xs) [] j h k = omega arith
+get_or-xor_bytes (x ∷ xs) (y ∷ ys) zero h k = refl
+get_or-xor_bytes (x ∷ xs) (y ∷ ys) (suc j) h k = get_or-xor_bytes xs ys j (omega arith) (omega arith)
 
 pub xor_twice : (xs ks : List ℕ) → all_bytes xs ≡ true → length xs ≤ length ks → xor_bytes (xor_bytes xs ks) ks ≡ xs
 unfolding xor_bytes all_bytes

@@ -16,8 +16,8 @@ use Rattle.opening.specs.declared.unlock.Unlocked.{Unlocked}
 use Rattle.opening.proofs.FrameSize.{Taken, frame_taken}
 
 -- a frame's text, or what is done next
-abbrev pub then-frames : ℕ → Header → List ℕ → ReadFrame → List ℕ → Opened → Opened
-then-frames n h sofar f t others = pick f.last (pick (is_empty f.rest) (opened h.context (sofar ++ t)) (not_opened 8 n)) others
+abbrev pub then_frames : ℕ → Header → List ℕ → ReadFrame → List ℕ → Opened → Opened
+then_frames n h sofar f t others = pick f.last (pick (is_empty f.rest) (opened h.context (sofar ++ t)) (not_opened 8 n)) others
 
 open_turn : (k : ℕ) (dk : List ℕ) (h : Header) (n : ℕ) (sofar bs : List ℕ)
     → with_frame n (read_frame h.frame_length n bs) (λ f. with_text n h sofar f (frame_text dk h.id n f) (λ t. open_frames k dk h (suc n) (sofar ++ t) f.rest)) ≡ open_frames (suc k) dk h n sofar bs
@@ -36,7 +36,7 @@ text_none : (n : ℕ) (h : Header) (sofar : List ℕ) (f : ReadFrame) (xs : List
 unfolding with_text
 text_none n h sofar f xs g e = ap (λ l. with_text n h sofar f l g) e
 
-text_some : (n : ℕ) (h : Header) (sofar t : List ℕ) (f : ReadFrame) (xs : List (List ℕ)) (g : List ℕ → Opened) → (t ∷ []) ≡ xs → then-frames n h sofar f t (g t) ≡ with_text n h sofar f xs g
+text_some : (n : ℕ) (h : Header) (sofar t : List ℕ) (f : ReadFrame) (xs : List (List ℕ)) (g : List ℕ → Opened) → (t ∷ []) ≡ xs → then_frames n h sofar f t (g t) ≡ with_text n h sofar f xs g
 unfolding with_text
 text_some n h sofar t f xs g e = ap (λ l. with_text n h sofar f l g) e
 
@@ -49,7 +49,7 @@ frame_ext n (f ∷ fs) g g' p = p f fs refl
 text_ext : (n : ℕ) (h : Header) (sofar : List ℕ) (f : ReadFrame) (ts : List (List ℕ)) (g g' : List ℕ → Opened) → ((t : List ℕ) → g t ≡ g' t) → with_text n h sofar f ts g ≡ with_text n h sofar f ts g'
 unfolding with_text
 text_ext n h sofar f [] g g' p = refl
-text_ext n h sofar f (t ∷ ts) g g' p = ap (λ x. then-frames n h sofar f t x) (p t)
+text_ext n h sofar f (t ∷ ts) g g' p = ap (λ x. then_frames n h sofar f t x) (p t)
 
 open_fuel : (k m : ℕ) (dk : List ℕ) (h : Header) (n : ℕ) (sofar bs : List ℕ) → length bs < k → length bs < m → open_frames k dk h n sofar bs ≡ open_frames m dk h n sofar bs
 open_fuel zero m dk h n sofar bs a b = absurd (omega arith)
@@ -73,10 +73,10 @@ module _ (u : Unlocked) (h : Header) (m : Matches u h) (n : ℕ) (sofar bs : Lis
       text_none n h sofar f _ _ (t ∙ ap (λ i. frame_text (key_of u.key) i n f) (sym m.id)) ∙ frame_some n f _ _ (e ∙ size_is) ∙ open_turn (length bs) (key_of u.key) h n sofar bs
 
   pub step_some : (f : ReadFrame) (t : List ℕ) → (f ∷ []) ≡ read_frame u.frame_length n bs → (t ∷ []) ≡ frame_text (key_of u.key) u.id n f
-      → then-frames n h sofar f t (open_rest (key_of u.key) h (n + 1) (sofar ++ t) f.rest) ≡ open_rest (key_of u.key) h n sofar bs
+      → then_frames n h sofar f t (open_rest (key_of u.key) h (n + 1) (sofar ++ t) f.rest) ≡ open_rest (key_of u.key) h n sofar bs
   step_some f t e w =
       let l = (frame_taken u.frame_length n bs f [] (sym e)).total in
-      ap (λ x. then-frames n h sofar f t x)
+      ap (λ x. then_frames n h sofar f t x)
       (ap (λ i. open_rest (key_of u.key) h i (sofar ++ t) f.rest) (add-one n) ∙ open_fuel (suc (length f.rest)) (length bs) (key_of u.key) h (suc n) (sofar ++ t) f.rest (omega arith) (omega arith))
       ∙ text_some n h sofar t f _ _ (w ∙ ap (λ i. frame_text (key_of u.key) i n f) (sym m.id)) ∙ frame_some n f _ _ (e ∙ size_is) ∙ open_turn (length bs) (key_of u.key) h n sofar bs
 

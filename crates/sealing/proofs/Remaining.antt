@@ -76,7 +76,7 @@ left_more key id text all out part size n from at k m end p h em ek ee long e w 
         let step = one_more (length (L.drop from text)) size p (omega (arith, rest)) in
         let same : (length (L.drop (from + size) text) - 1) / size ≡ (length (L.drop from text) - size - 1) / size = ap (λ i. (i - 1) / size) (next ∙ let z : length text - from - size ≡ length (L.drop from text) - size = omega (arith, rest) in z) in
         let mid : put_mid at k out part ≡ spliced out at part = spliced_mid at k out part part refl (omega arith) in
-        let mid-long : length (put_mid at k out part) ≡ length out = ap length mid ∙ length-spliced out at part (omega arith) in
+        let mid_long : length (put_mid at k out part) ≡ length out = ap length mid ∙ length-spliced out at part (omega arith) in
         record {
           fuel = f;
           enough = omega (arith, rest, next);
@@ -85,7 +85,7 @@ left_more key id text all out part size n from at k m end p h em ek ee long e w 
               ∙ ap (λ l. spliced out at (part ++ frames f key id size (n + 1) l)) (sym (drop-drop size from text))
               ∙ ap (λ l. spliced out at (l ++ frames f key id size (n + 1) (L.drop size (L.drop from text)))) is
               ∙ ap (λ l. spliced out at l) (frames_more f key id (L.drop from text) size n (omega (arith, rest))) ∙ b;
-          room = omega (arith, w.room, rest, next, mid-long);
+          room = omega (arith, w.room, rest, next, mid_long);
         }
 
 -- the final frame
