@@ -12,7 +12,7 @@ ghost use Rattle.header.specs.Models.{request_of};
 ghost use Rattle.header_read.specs.Parts.{header_reads};
 ghost use Rattle.opening.specs.Answer.{answer};
 ghost use Rattle.strongbox.specs.Answers.{seal_told, sealed_into, SealKeeps, opened_into, left_in};
-ghost use Rattle.strongbox.specs.Told.{left_zeros};
+ghost use Rattle.strongbox.specs.Zeros.{left_zeros};
 
 use crate::calls;
 use header::{Request, SealRefusal};

@@ -2,7 +2,7 @@
 use Rattle.std.proofs.Common.{◌≡◌, length, ap, ◌∙◌, arith}
 use Rattle.opening.specs.Answer.{opening}
 use Rattle.strongbox.specs.Answers.{left_by}
-use Rattle.strongbox.specs.Told.{left}
+use Rattle.strongbox.proofs.Told.{left}
 use Rattle.strongbox.proofs.calls.open.Goals as goal
 
 pub returns : goal.returns

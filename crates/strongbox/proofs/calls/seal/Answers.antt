@@ -4,7 +4,7 @@ use Rattle.format.specs.Request.{seal_refusal}
 use Rattle.format.specs.Message.{message}
 use Rattle.header.specs.Models.{request_of}
 use Rattle.sealing.specs.Whole.{sealed_message}
-use Rattle.strongbox.specs.Told.{told, keeps}
+use Rattle.strongbox.proofs.Told.{told, keeps}
 use Rattle.strongbox.proofs.calls.seal.Goals as goal
 
 pub returns : goal.returns

@@ -1,6 +1,6 @@
 -- The length, from the layer below.
 use Rattle.header.specs.Models.{request_of}
-use Rattle.strongbox.specs.Told.{length_tells}
+use Rattle.strongbox.proofs.Told.{length_tells}
 use Rattle.strongbox.proofs.calls.sealed_len.Goals as goal
 
 pub returns : goal.returns

@@ -1,5 +1,5 @@
 -- What sealing and opening answer and leave, in the words of the promise.
-use Rattle.std.specs.Prelude.{◌≡◌, ℕ, ◌-◌, Bool, true, false, cond, List, ◌++◌, length, take, drop, is_ok, Ok, Err, Result, ◌==◌, nat_lt, refl}
+use Rattle.std.specs.Prelude.{◌≡◌, ℕ, ◌-◌, Bool, true, false, cond, List, ◌++◌, length, take, drop, is_ok, Ok, Err, Result, ◌==◌, refl}
 use Rattle.std.proofs.Common.{sym, ap, ◌∙◌, true≢false, arith, length-take, take-append-drop}
 use Rattle.std.proofs.Math.Nat.{sub-zero}
 use Rattle.std.proofs.lemmas.Bool.{eq-eqb, eqb-true}
@@ -7,7 +7,6 @@ use Rattle.octets.specs.Bits.{pick}
 use Rattle.octets.specs.Bytes.{repeat}
 use Rattle.format.specs.Request.{Request, seal_refusal}
 use Rattle.format.specs.Message.{message}
-use Rattle.format.specs.Opening.{not_opened}
 use Rattle.format.specs.Promise.{sealed_as, not_sealed, seal_answer}
 use Rattle.sealing.specs.Whole.{sealed_message}
 use Rattle.sealing.specs.Answers.{MessageLength}
@@ -17,7 +16,7 @@ use Rattle.header.specs.declared.refusal.SealRefusal.{SealRefusal}
 use Rattle.opening.specs.Answer.{answer, text_len}
 use Rattle.opening.specs.declared.message.Opened.{Opened}
 use Rattle.opening.specs.declared.refusal.OpenRefusal.{OpenRefusal}
-use Rattle.strongbox.specs.Answers.{length_told, message_length, length_is, no_length, seal_told, sealed_into, SealKeeps, left_by, left_in}
+use Rattle.strongbox.specs.Answers.{length_told, message_length, length_is, no_length, seal_told, sealed_into, SealKeeps, left_by}
 
 -- by whether the request is refused, and whether the lent bytes are as many as the message's
 told_by : (passed fits : Bool) (m old out : List ℕ) (refusal room : ℕ) (r : Result (Unit {0}) SealRefusal)
@@ -59,12 +58,3 @@ left (Ok o) out n l z =
     let e : n - o.len ≡ n - length (take o.len out) = omega (arith, length-take o.len out) in
     sym (take-append-drop o.len out) ∙ ap (λ bs. take o.len out ++ bs) (z ∙ ap (λ k. repeat k 0) e)
 left (Err e) out n l z = z ∙ ap (λ k. repeat k 0) (sub-zero n)
-
-zeros_by : (short : Bool) (n a b : ℕ) → left_by (pick short (not_opened 1 0) (not_opened a b)) n ≡ repeat n 0
-unfolding pick
-zeros_by true n a b = refl
-zeros_by false n a b = refl
-
--- of a message that isn't opened nothing is left but zeros
-pub left_zeros : (n : ℕ) (bs : List ℕ) (a b : ℕ) → left_in n bs (not_opened a b) ≡ repeat n 0
-left_zeros n bs a b = zeros_by (nat_lt n (length bs)) n a b
