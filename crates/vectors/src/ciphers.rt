@@ -1,6 +1,7 @@
 // AES-256 and GCM: one case a line.
 use crate::words::Words;
 use aes256::{RoundKeys, encrypt_block, expand_key};
+use anyhow::anyhow;
 use gcm::Key;
 use std::alloc::Global;
 
@@ -10,19 +11,19 @@ pub fn aes_case(heap: Global, line: &str) -> anyhow::Result<bool> {
     let keys = expand_key(&words.fixed::<32>(heap)?);
     let blocks = words.bytes(heap)?;
     let expected = words.bytes(heap)?;
-    Ok(blocks_are(&keys, blocks.as_slice(), expected.as_slice()))
+    blocks_are(&keys, blocks.as_slice(), expected.as_slice())
 }
 
-fn blocks_are(keys: &RoundKeys, blocks: &[u8], expected: &[u8]) -> bool {
+fn blocks_are(keys: &RoundKeys, blocks: &[u8], expected: &[u8]) -> anyhow::Result<bool> {
     if blocks.len() != expected.len() || blocks.len() % 16 != 0 {
-        return false;
+        return Err(anyhow!("not whole blocks"));
     }
     let mut right = true;
     for i in 0..blocks.len() / 16 {
         let at = 16 * i;
         right &= block_is(keys, &blocks[at..at + 16], &expected[at..at + 16]);
     }
-    right
+    Ok(right)
 }
 
 fn block_is(keys: &RoundKeys, block: &[u8], expected: &[u8]) -> bool {

@@ -2,6 +2,7 @@
 use crate::ciphers::all_zero;
 use crate::requests::{context_is, data_keys_are, header_request, lend, read_fixed, read_lists};
 use crate::words::Words;
+use anyhow::anyhow;
 use header::{Request, SealRefusal};
 use header_read::ReadHeader;
 use opening::{OpenRefusal, Opened};
@@ -77,6 +78,9 @@ fn refused_is(refusal: OpenRefusal, out: &[u8], words: &mut Words) -> anyhow::Re
 pub fn length_case(heap: Global, line: &str) -> anyhow::Result<bool> {
     let mut words = Words::of(line);
     let fixed = read_fixed(&mut words, heap)?;
+    if fixed.key.len() != 32 {
+        return Err(anyhow!("bytes of another length"));
+    }
     let text_len = words.number()?;
     let lists = read_lists(&mut words, heap)?;
     let lent = lend(heap, &lists)?;
