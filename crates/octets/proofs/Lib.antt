@@ -5,4 +5,5 @@ pub mod Lists
 pub mod Numbers
 pub mod Order
 pub mod Splice
+pub mod Writing
 pub mod XorBytes

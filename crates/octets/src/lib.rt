@@ -8,11 +8,13 @@ mod compare;
 mod number;
 mod read;
 mod write;
+mod writer;
 
 pub use compare::{equal, equal_fixed, less};
 pub use number::Word;
 pub use read::{cut, cut_number};
 pub use write::{clear, put, put_number};
+pub use writer::Writer;
 
 #[cfg(test)]
 mod tests;

@@ -27,7 +27,7 @@ impl Word<2> for u16 {
     }
 
     fn to_bytes(self) -> [u8; 2] {
-        self.to_be_bytes()
+        u16::to_be_bytes(self)
     }
 }
 
@@ -41,7 +41,7 @@ impl Word<4> for u32 {
     }
 
     fn to_bytes(self) -> [u8; 4] {
-        self.to_be_bytes()
+        u32::to_be_bytes(self)
     }
 }
 
@@ -55,6 +55,6 @@ impl Word<8> for u64 {
     }
 
     fn to_bytes(self) -> [u8; 8] {
-        self.to_be_bytes()
+        u64::to_be_bytes(self)
     }
 }
