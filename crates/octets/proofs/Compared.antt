@@ -1,11 +1,10 @@
 -- Byte strings compared: equality by what differs up to a place, and order as the library has it.
-use Rattle.std.proofs.Common.{◌≡◌, ℕ, suc, Ordering, Less, Equal, Greater, Some, cond, Option, ◌+◌, ◌-◌, ◌<◌, ◌≤◌, Bool, true, false, ◌&&◌, ◌||◌, eqb, ltb, ◌⊎◌, List, [], ◌∷◌, ◌++◌, length, get_or, take, drop, sym, refl, ap, ◌∙◌, ap₂, inl, inr, ⊎_elim, arith, length-drop, length-take-le, take_all}
+use Rattle.std.proofs.Common.{◌≡◌, ℕ, suc, Ordering, Less, Equal, Greater, Some, cond, Option, ◌+◌, ◌<◌, ◌≤◌, Bool, true, false, ◌&&◌, ◌||◌, eqb, ltb, List, [], ◌∷◌, ◌++◌, length, get_or, take, sym, refl, ap, ◌∙◌, ap₂, ⊎_elim, arith, length-take-le, take_all}
 use Rattle.std.specs.Ordering.{is_some_and, is_lt, nat_cmp, as_partial_cmp, partial_ordering_then, partial_lt}
 use Rattle.std.specs.Cmp.Lexicographic.{slice_partial_cmp}
 use lib.Bits.{bit_or, bit_xor, or_add_and, xor_add_and, and_le_l, and_le_r, xor_self}
-use Rattle.std.proofs.lemmas.List.{take_more, drop_more}
-use Rattle.std.proofs.lemmas.Bool.{lt-ltb, le-ltb, eq-eqb, ne_eqb, and_from, and_left, and_right, cases_eq}
-use Rattle.std.proofs.lemmas.Bool.Decides.{nat_tests}
+use Rattle.std.proofs.lemmas.List.{take_more}
+use Rattle.std.proofs.lemmas.Bool.{eq-eqb, ne_eqb, and_from, and_left, and_right, cases_eq}
 use Rattle.octets.specs.Bytes.{bytes_eq, bytes_lt}
 
 -- differences joined by or are zero where all of them are

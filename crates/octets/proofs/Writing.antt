@@ -1,8 +1,7 @@
 -- Bytes written one after another: two writes come to one, and where one lacks room, so does all that begins with it.
-use Rattle.std.proofs.Common.{◌≡◌, ℕ, ◌+◌, List, ◌++◌, length, Some, None, Option, ap, ◌∙◌, arith, length-append}
+use Rattle.std.proofs.Common.{◌≡◌, ℕ, List, ◌++◌, length, Some, None, Option, ap, ◌∙◌, arith, length-append}
 use Rattle.std.specs.Bool.{⊤}
 use Rattle.octets.specs.declared.writer.Writer.{Writer}
-use Rattle.octets.specs.Splice.{spliced}
 use Rattle.octets.specs.Writing.{Wrote, Lacked, Writes}
 use Rattle.octets.proofs.Splice.{length-spliced, written_then}
 

@@ -4,9 +4,6 @@ use Rattle.octets.specs.Cut.{word_cuts}
 use Rattle.octets.proofs.Cuts.{number_cut_some, number_cut_none}
 use Rattle.octets.proofs.read.cut_number.Goals as goal
 
-pub split_first_chunk-requires : goal.split_first_chunk-requires
-split_first_chunk-requires g c = let few = g.met.T.Word.few in omega (arith, few)
-
 pub returns-in_err-front : goal.returns-in_err-front
 returns-in_err-front g c = record { value = ap (word_cuts g.T.Word.value) c.from_residual.ensures ∙ number_cut_none g.row.N c.args.bytes.now c.in_err-front.ensures.cases }
 
