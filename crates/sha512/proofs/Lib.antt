@@ -1,3 +1,4 @@
+pub mod Chunks
 pub mod Schedule
-pub mod Padding
 pub mod Pieces
+pub mod Padding

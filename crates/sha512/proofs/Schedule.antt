@@ -3,11 +3,12 @@ use Rattle.std.proofs.Common.{◌≡◌, ℕ, zero, suc, ◌+◌, ◌-◌, ◌*�
 use lib.ListN as L
 use Rattle.std.specs.List.{range_with_len}
 use Rattle.std.proofs.lemmas.List.FromFn.{fill_by_all}
-use Rattle.std.proofs.lemmas.List.{get_or-reverse, length-take-le, get_or-take, get_or-drop, length-drop, drop-drop, take_more_set, drop_more}
+use Rattle.std.proofs.lemmas.List.{get_or-reverse, length-take-le, get_or-take, get_or-drop, length-drop, drop-drop, take_more_set, take_more, drop_more, drop_all}
 use Rattle.octets.specs.Bytes.{take, drop, nth, of_bytes, reversed}
 use Rattle.octets.proofs.Lists.{nth_is, take_is, drop_is, reversed_is, reversed_push}
+use Rattle.sha512.specs.Constants.{constants, k0, k1, k2, k3, k4, k5, k6, k7, k8, k9, k10, k11, k12, k13, k14, k15, k16, k17, k18, k19}
 use Rattle.sha512.specs.Words.{add, small_sigma0, small_sigma1}
-use Rattle.sha512.specs.Sha512.{block_words, extend_words, round, rounds}
+use Rattle.sha512.specs.Sha512.{block_words, extend_words, round, rounds, add_words}
 
 -- the k-th from the end of the first t
 pub nth_back : (xs : List ℕ) (t k m : ℕ) → t ≤ L.length xs → k + m + 1 ≡ t → nth (reversed (L.take t xs)) k ≡ L.get_or xs m 0
@@ -63,7 +64,29 @@ eight_at bs at h =
 pub eight : (xs : List ℕ) → L.length xs ≡ 8 → xs ≡ map (λ (k : ℕ). L.get_or xs k 0) (range_with_len 0 8)
 eight xs h = fill_by_all (λ (k : ℕ). L.get_or xs k 0) xs 8 0 h (λ k _. refl)
 
+pub eighty : L.length constants ≡ 80
+unfolding constants k0 k1 k2 k3 k4 k5 k6 k7 k8 k9 k10 k11 k12 k13 k14 k15 k16 k17 k18 k19
+eighty = refl
+
 pub rounds_more : (s ks ws : List ℕ) (i : ℕ) → i < L.length ks → i < L.length ws
     → rounds s (L.drop i ks) (L.drop i ws) ≡ rounds (round s (L.get_or ks i 0) (L.get_or ws i 0)) (L.drop (i + 1) ks) (L.drop (i + 1) ws)
 unfolding rounds
 rounds_more s ks ws i hk hw = ap₂ (λ (x y : List ℕ). rounds s x y) (drop_more ks i 0 hk) (drop_more ws i 0 hw)
+
+pub rounds_done : (s ks ws : List ℕ) (i : ℕ) → L.length ks ≤ i → rounds s (L.drop i ks) (L.drop i ws) ≡ s
+unfolding rounds
+rounds_done s ks ws i h = ap (λ (xs : List ℕ). rounds s xs (L.drop i ws)) (drop_all i ks h)
+
+add_words_push : (xs ys : List ℕ) (x y : ℕ) → L.length xs ≡ L.length ys → add_words (xs ++ (x ∷ [])) (ys ++ (y ∷ [])) ≡ add_words xs ys ++ (add x y ∷ [])
+unfolding add_words
+add_words_push [] [] x y e = refl
+add_words_push [] (b ∷ bs) x y e = absurd (omega arith)
+add_words_push (a ∷ as') [] x y e = absurd (omega arith)
+add_words_push (a ∷ as') (b ∷ bs) x y e = ap (λ (zs : List ℕ). add a b ∷ zs) (add_words_push as' bs x y (omega arith))
+
+pub add_words_more : (xs ys out : List ℕ) (i : ℕ) → i < L.length xs → i < L.length ys → i < L.length out → L.take i out ≡ add_words (L.take i xs) (L.take i ys)
+    → L.take (i + 1) (L.set out i (add (L.get_or xs i 0) (L.get_or ys i 0))) ≡ add_words (L.take (i + 1) xs) (L.take (i + 1) ys)
+add_words_more xs ys out i hx hy ho e =
+    let l : L.length (L.take i xs) ≡ L.length (L.take i ys) = length-take-le i xs (omega arith) ∙ sym (length-take-le i ys (omega arith)) in
+    take_more_set out i _ ho ∙ ap (λ zs. zs ++ (add (L.get_or xs i 0) (L.get_or ys i 0) ∷ [])) e
+    ∙ sym (ap₂ add_words (take_more xs i 0 hx) (take_more ys i 0 hy) ∙ add_words_push (L.take i xs) (L.take i ys) (L.get_or xs i 0) (L.get_or ys i 0) l)

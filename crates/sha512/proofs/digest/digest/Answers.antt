@@ -17,7 +17,7 @@ loop-i-preserved c =
     let m : length c.args.state ≡ 8 = search rules in
     let l : i < length c.args.state = omega arith in
     let is : c.copy_from_slice.new.self ≡ to_bytes 8 (get_or c.args.state i 0)
-    = c.copy_from_slice.ensures.after ∙ c.to_be_bytes-word.ensures ∙ sym (to_bytes_8 (get_or c.args.state i 0)) in
+    = c.copy_from_slice.ensures.after ∙ c.to_be_bytes.ensures ∙ sym (to_bytes_8 (get_or c.args.state i 0)) in
     let k : length c.copy_from_slice.new.self ≡ 8 = search rules in (
       search (rules, places),
       take-put_mid (8 * i) (8 * i + 8 - 8 * i) c.loop-i.out c.copy_from_slice.new.self (8 * (i + 1)) (omega arith) (omega arith)
