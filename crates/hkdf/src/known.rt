@@ -21,14 +21,13 @@ fn hmac_of_jefe() -> [u8; 64]
 fn key_of_jefe() -> [u8; 32]
     ensures value { result ≡ jefe_key }
 {
-    let mut out = [0u8; 32];
-    let Ok(()) = derive(
+    let mut out = [0; 32];
+    derive(
         b"Jefe",
         b"what do ya want for nothing?",
         b"COMMITKEY",
         &mut out,
-    ) else {
-        return out;
-    };
+    )
+    .unwrap();
     out
 }

@@ -13,12 +13,11 @@ const OUTER_MASK: u8 = 0x5c;
 fn block_key(key: &[u8]) -> [u8; 128]
     ensures { result ≡ block_key key.now }
 {
-    let mut block = [0u8; 128];
+    let mut block = [0; 128];
     if key.len() > 128 {
-        let short = hash(key);
-        block[0..64].copy_from_slice(&short);
+        block[..64].copy_from_slice(&hash(key));
     } else {
-        block[0..key.len()].copy_from_slice(key);
+        block[..key.len()].copy_from_slice(key);
     }
     block
 }

@@ -5,4 +5,4 @@ use Rattle.hkdf.proofs.known.key_of_jefe.Goals as goal
 
 pub returns : goal.returns
 unfolding commit_label
-returns c = record { value = c.in-Ok.ensures.value.1 ∙ jefe_derived }
+returns c = let derived = rw c.unwrap.ensures at c.derive.ensures.value in record { value = derived.1 ∙ jefe_derived }
