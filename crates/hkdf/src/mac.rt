@@ -26,6 +26,7 @@ fn each_xor(mask: u8, block: [u8; 128]) -> [u8; 128]
     ensures { result ≡ each_xor mask block }
 {
     let mut out = block;
+    // by index: a key may be secret
     for i in 0..128 {
         out[i] = mask ^ block[i];
     }

@@ -1,8 +1,7 @@
--- Bytes as words and as blocks: the chunks that the code reads are what the definitions cut off.
-use Rattle.std.proofs.Common.{◌++◌, ◌/◌, take, set, ◌≡◌, ℕ, zero, suc, ◌+◌, ◌*◌, ◌<◌, ◌≤◌, List, [], ◌∷◌, length, get_or, drop, map, sym, refl, ap, ◌∙◌, ap₂, take_all, arith, length-take-le, length-drop}
+-- Bytes in chunks, as words and as blocks: what the code reads is what the definitions cut off.
+use Rattle.std.proofs.Common.{◌≡◌, ℕ, zero, suc, ◌+◌, ◌*◌, ◌/◌, ◌<◌, ◌≤◌, List, [], ◌∷◌, ◌++◌, length, get_or, take, drop, set, map, fold, sym, refl, ap, ◌∙◌, ap₂, take_all, arith, length-take-le, length-drop}
 use Rattle.std.proofs.Math.Nat.{div-mul-le_self}
 use Rattle.std.proofs.lemmas.List.{take_more_set, map_more}
-use Rattle.std.specs.Prelude.{fold}
 use Rattle.std.specs.Simd.{first_chunks}
 use Rattle.octets.specs.Bytes.{of_bytes}
 use Rattle.octets.proofs.Lists.{take_is, drop_is}
@@ -21,6 +20,7 @@ hash_blocks_is zero s bs = refl
 hash_blocks_is (suc n) s bs =
     hash_blocks_is n _ _ ∙ ap₂ (λ (x ys : List ℕ). fold compress_block (compress_block s x) (first_chunks 128 n ys)) (take_is 128 bs) (drop_is 128 bs)
 
+-- a word of eight bytes, as the code's `from_be_bytes` reads it
 pub of_8 : (bs : List ℕ) → length bs ≡ 8
     → get_or bs 0 0 * 72057594037927936 + get_or bs 1 0 * 281474976710656 + get_or bs 2 0 * 1099511627776 + get_or bs 3 0 * 4294967296 + get_or bs 4 0 * 16777216 + get_or bs 5 0 * 65536 + get_or bs 6 0 * 256 + get_or bs 7 0 ≡ of_bytes bs
 of_8 bs l = of_first_8 bs (omega arith) ∙ ap of_bytes (take_all 8 bs (omega arith))

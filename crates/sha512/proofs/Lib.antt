@@ -1,3 +1,4 @@
+pub mod Table
 pub mod Chunks
 pub mod Schedule
 pub mod Pieces

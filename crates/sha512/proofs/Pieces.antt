@@ -1,7 +1,6 @@
--- One more piece of a message: it stays within the block, or it fills the block and goes on.
-use Rattle.std.proofs.Common.{◌≡◌, ℕ, zero, suc, ◌+◌, ◌-◌, ◌*◌, ◌/◌, ◌%◌, ◌^◌, ◌<◌, ◌≤◌, List, ◌++◌, length, take, drop, sym, ap, ◌∙◌, ap₂, suc-add, zero-add, add-zero, arith}
+-- One more piece of a message that fills the block and goes on.
+use Rattle.std.proofs.Common.{◌≡◌, ℕ, zero, suc, ◌+◌, ◌-◌, ◌*◌, ◌/◌, ◌%◌, ◌^◌, ◌≤◌, List, ◌++◌, length, take, drop, fold, sym, ap, ◌∙◌, ap₂, suc-add, zero-add, add-zero, arith}
 use borrow.Rule.Slice.PartMut.{put_mid}
-use Rattle.std.specs.Prelude.{fold}
 use Rattle.std.specs.Simd.{first_chunks}
 use Rattle.std.proofs.lemmas.List.{append_assoc, append-nil, length-append, length-take-le, length-drop, take-append-drop, take-append-le, drop-append-le, nil_from_length, drop_all, take_all}
 use Rattle.std.proofs.lemmas.Slice.{take-put_mid}
@@ -31,25 +30,6 @@ hash_blocks_front n s xs ys h = ap (λ k. hash_blocks k s (xs ++ ys)) (sym (add-
 
 counted_more : (t n : ℕ) (m bytes : List ℕ) → t ≡ length m % 2 ^ 128 → n ≡ (t + length bytes) % 2 ^ 128 → n ≡ length (m ++ bytes) % 2 ^ 128
 counted_more t n m bytes e h = omega (arith, length-append m bytes)
-
-pub held_within : {initial m : List ℕ} {s s' : Stream} (bytes ys : List ℕ) (used k : ℕ) → Held initial s m → length s.block ≡ 128
-    → used ≡ s.total % 128 → length bytes < 128 - used → ys ≡ bytes
-    → s'.state ≡ s.state → s'.block ≡ put_mid used k s.block ys → s'.total ≡ (s.total + length bytes) % 2 ^ 128
-    → Held initial s' (m ++ bytes)
-held_within {m = m} {s = s} {s' = s'} bytes ys used k t l eu lb ey es eb et =
-    let v : s'.total % 128 ≡ used + length ys = omega (arith, ap length ey) in
-    record {
-      front = t.front;
-      count = t.count;
-      whole = t.whole;
-      parts =
-          ap (λ xs. xs ++ bytes) t.parts ∙ append_assoc t.front (take (s.total % 128) s.block) bytes
-          ∙ ap (λ xs. t.front ++ xs)
-          (sym (ap (take (s'.total % 128)) eb ∙ take-put_mid used k s.block ys (s'.total % 128) v (omega arith)
-          ∙ ap₂ (λ n xs. take n s.block ++ xs) eu ey));
-      hashed = es ∙ t.hashed;
-      counted = counted_more s.total s'.total m bytes t.counted et;
-    }
 
 -- the block once it is full
 full_block : (used : ℕ) (block ys : List ℕ) → length block ≡ 128 → used ≤ 128 → put_mid used (128 - used) block ys ≡ take used block ++ ys

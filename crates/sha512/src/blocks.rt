@@ -15,24 +15,24 @@ pub(crate) type Block = [u8; 128];
 // the message schedule: a word for each of the eighty rounds
 type Words = [u64; 80];
 
-#[tactic(auto, using(crate::proofs::Chunks::block_words_is))]
 // the sixteen words of a block at the front of the schedule
 fn block_words(block: &Block) -> Words
     ensures { L.take 16 result ≡ block_words 16 block.now }
 {
     let (words, _) = block.as_chunks::<8>();
     let mut w = [0; 80];
+    // by index: a block may be secret
     for i in 0..16 {
         w[i] = u64::from_be_bytes(words[i]);
     }
     w
 }
 
-// each later word comes from four before it
 fn schedule(block: &Block) -> Words
     ensures { result ≡ reversed (extend_words 64 (reversed (block_words 16 block.now))) }
 {
     let mut w = block_words(block);
+    // by index: each later word comes from four before it
     for t in 16..80 {
         w[t] = small_sigma1(w[t - 2])
             .wrapping_add(w[t - 7])
@@ -53,10 +53,12 @@ fn round(s: State, k: u64, w: u64) -> State
     [t1.wrapping_add(t2), a, b, c, d.wrapping_add(t1), e, f, g]
 }
 
+#[tactic(auto, unfolding(crate::specs::Sha512::add_words))]
 fn add_words(a: State, b: State) -> State
     ensures { result ≡ add_words a b }
 {
     let mut sum = [0; 8];
+    // by index: a state may be secret
     for i in 0..8 {
         sum[i] = a[i].wrapping_add(b[i]);
     }
@@ -91,6 +93,7 @@ pub(crate) fn compress(state: State, block: &Block) -> State
 {
     let w = schedule(block);
     let mut s = state;
+    // by index: ten turns of eight rounds; by `next`, since an array that lives on can't take a call's result
     for i in 0..10 {
         let next = eight_rounds(s, &w, 8 * i);
         s = next;
@@ -102,6 +105,7 @@ pub(crate) fn hash_blocks(state: State, blocks: &[Block]) -> State
     ensures { result ≡ fold compress_block state blocks.now }
 {
     let mut s = state;
+    // by index: blocks may be secret; by `next`, as in `compress`
     for i in 0..blocks.len() {
         let next = compress(s, &blocks[i]);
         s = next;

@@ -1,11 +1,6 @@
-use Rattle.std.proofs.Common.{◌≡◌, ℕ, length, sym, refl, ap₂, ◌∙◌, take_all, arith, rules, length-set}
-use Rattle.sha512.specs.Sha512.{add_words}
+use Rattle.std.proofs.Common.{◌≡◌, length, ◌∙◌, arith, rules, length-set}
 use Rattle.sha512.proofs.Schedule.{add_words_more}
 use Rattle.sha512.proofs.blocks.add_words.Goals as goal
-
-pub loop-i-init : goal.loop-i-init
-unfolding add_words
-loop-i-init c = (refl, refl)
 
 pub loop-i-preserved : goal.loop-i-preserved
 loop-i-preserved c =
@@ -14,10 +9,3 @@ loop-i-preserved c =
       length-set c.loop-i.sum c.loop-i.i _ ∙ c.loop-i.invariant.0,
       add_words_more c.args.a c.args.b c.loop-i.sum c.loop-i.i (omega arith) (omega arith) (omega arith) c.loop-i.invariant.1,
     )
-
-pub returns : goal.returns
-returns c =
-    let m : length c.args.a ≡ 8 = search rules in
-    let n : length c.args.b ≡ 8 = search rules in
-    let i : ℕ = c.loop-i.i in
-    sym (take_all i c.loop-i.sum (omega arith)) ∙ c.loop-i.invariant.1 ∙ ap₂ add_words (take_all i c.args.a (omega arith)) (take_all i c.args.b (omega arith))

@@ -1,11 +1,6 @@
 use Rattle.std.proofs.Common.{◌≡◌, length, refl, ◌∙◌, rules}
-use Rattle.sha512.proofs.Pieces.{held_within, held_beyond}
+use Rattle.sha512.proofs.Pieces.{held_beyond}
 use Rattle.sha512.proofs.stream.Stream.update.Goals as goal
-
-pub returns-then-bytes-room : goal.returns-then-bytes-room
-returns-then-bytes-room c initial m t =
-    let l : length c.args.self.now.block ≡ 128 = search rules in
-    held_within c.args.bytes.now c.copy_from_slice.new.self _ _ t l c.used-used.ensures c.if-bytes-room.true c.copy_from_slice.ensures.after refl refl refl
 
 pub returns : goal.returns
 returns c initial m t =
