@@ -10,6 +10,7 @@ const INNER_MASK: u8 = 0x36;
 const OUTER_MASK: u8 = 0x5c;
 
 // a key as one block: hashed first where it is longer than a block
+#[tactic(auto, using(crate::proofs::BlockKey::long_key, crate::proofs::BlockKey::short_key))]
 fn block_key(key: &[u8]) -> [u8; 128]
     ensures { result ≡ block_key key.now }
 {

@@ -7,5 +7,5 @@ pub constants_are : constants ≡ ROUND_CONSTANTS
 unfolding constants k0 k1 k2 k3 k4 k5 k6 k7 k8 k9 k10 k11 k12 k13 k14 k15 k16 k17 k18 k19
 constants_are = refl
 
-pub length-constants : length constants ≡ 80
-length-constants = ap length constants_are
+pub length_constants : length constants ≡ 80
+length_constants = ap length constants_are

@@ -41,6 +41,7 @@ fn schedule(block: &Block) -> Words
     w
 }
 
+#[tactic(auto, using(octets::proofs::Lists::nth_is), unfolding(crate::specs::Sha512::round))]
 fn round(s: State, k: u64, w: u64) -> State
     ensures { result ≡ round s k w }
 {
@@ -66,6 +67,7 @@ fn add_words(a: State, b: State) -> State
 }
 
 // the round at a place of the schedule
+#[tactic(auto, using(octets::proofs::Lists::nth_is, crate::proofs::Schedule::rounds_more, crate::proofs::Table::length_constants))]
 fn round_at(s: State, w: &Words, at: usize) -> State
     requires { at < 80 }
     ensures { rounds s (L.drop at constants) (L.drop at w.now) ≡ rounds result (L.drop (at + 1) constants) (L.drop (at + 1) w.now) }
@@ -88,6 +90,7 @@ fn eight_rounds(s: State, w: &Words, at: usize) -> State
     round_at(s, w, at + 7)
 }
 
+#[tactic(auto, using(crate::proofs::Schedule::rounds_done, crate::proofs::Table::length_constants))]
 pub(crate) fn compress(state: State, block: &Block) -> State
     ensures { result ≡ compress_block state block.now }
 {

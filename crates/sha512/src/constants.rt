@@ -99,6 +99,7 @@ const INITIAL_STATE: [u64; 8] = [
     0x5be0_cd19_137e_2179,
 ];
 
+#[tactic(auto, using(octets::proofs::Lists::nth_is, crate::proofs::Table::constants_are))]
 pub(crate) fn round_constant(i: usize) -> u64
     requires { i < 80 }
     ensures { result ≡ nth constants i }
