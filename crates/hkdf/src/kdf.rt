@@ -14,7 +14,7 @@ pub struct TooLong;
 // fills `out` from the first and only block of output of an extracted key
 #[tactic(auto, using(octets::proofs::Lists::take_is), unfolding(crate::specs::Hkdf::hkdf))]
 pub(crate) fn expand(extracted: &[u8; 64], info: &[u8], out: &mut [u8])
-    requires { length out.old ≤ 64 }
+    requires { length out.old ≤ MAX_OUTPUT }
     ensures { (salt key : List ℕ) → extracted.now ≡ hmac salt key → out.new ≡ hkdf salt key info.now (length out.old) }
 {
     let mut mac = Mac::new(extracted);

@@ -64,10 +64,9 @@ impl Mac {
         ensures { (k m : List ℕ) → Keyed self k m → result ≡ hmac k m }
     {
         let Mac { inner, outer } = self;
-        let inner_hash = inner.finish();
         let mut hasher = Hasher::new();
         hasher.update(&outer);
-        hasher.update(&inner_hash);
+        hasher.update(&inner.finish());
         hasher.finish()
     }
 }
