@@ -21,10 +21,6 @@ impl<'a> NewFile<'a> {
         Ok(NewFile { file, path, place })
     }
 
-    pub fn write(&mut self, bytes: &[u8]) -> io::Result<()> {
-        self.file.write_all(bytes)
-    }
-
     // Puts it in its place, which nothing else may have unless it is to be replaced. Where that fails, nothing is left of it.
     pub fn finish(self, rt: &HostRuntime, replace: bool) -> io::Result<()> {
         let settled = self.settle(rt, replace);
@@ -48,6 +44,16 @@ impl<'a> NewFile<'a> {
         // The file is whole and in its place; that the folder is synced too is not always to be had.
         let _ = sync_folder(rt, self.place);
         Ok(())
+    }
+}
+
+impl Write for NewFile<'_> {
+    fn write(&mut self, bytes: &[u8]) -> io::Result<usize> {
+        self.file.write(bytes)
+    }
+
+    fn flush(&mut self) -> io::Result<()> {
+        self.file.flush()
     }
 }
 
@@ -77,7 +83,7 @@ mod tests {
 
     fn made(rt: &HostRuntime, place: &str, text: &str, replace: bool) -> io::Result<()> {
         let mut file = NewFile::create(rt, place)?;
-        file.write(text.as_bytes())?;
+        file.write_all(text.as_bytes())?;
         file.finish(rt, replace)
     }
 

@@ -1,5 +1,6 @@
 // Bytes from files.
-ghost use Rattle.std.specs.Prelude.{◌≡◌, ◌≤◌, length, IfSome, IfOk, vec_len};
+ghost use Rattle.std.specs.Prelude.{◌≡◌, ◌<◌, ◌≤◌, length, take, IfSome, IfOk, OnErr, vec_len};
+ghost use Rattle.std.specs.Io.KnownBytes.{Consumes, IsAtEnd, Keeps};
 
 use std::fs::File;
 use std::io::Read;
@@ -7,7 +8,9 @@ use std::{fs, io};
 
 // One read, made again where a signal interrupts it.
 fn read_some<R: Read>(from: &mut R, buf: &mut [u8]) -> io::Result<usize>
-    ensures { IfOk result (λ n. n ≤ length buf.new) }
+    ensures bound { IfOk result (λ n. n ≤ length buf.new) }
+    ensures bytes { IfOk result (λ n. Consumes (R.remaining from.old) (R.remaining from.new) (take n buf.new)) }
+    ensures end { IfOk result (λ n. n ≡ 0 → 0 < length buf.old → IsAtEnd (R.remaining from.new)) }
 {
     for _ in 0..u64::MAX {
         match from.read(buf) {
@@ -21,17 +24,19 @@ fn read_some<R: Read>(from: &mut R, buf: &mut [u8]) -> io::Result<usize>
 // Reads until buf is full or nothing more comes, and answers how many bytes came.
 pub fn read_full<R: Read>(from: &mut R, buf: &mut [u8]) -> io::Result<usize>
     ensures bound { IfOk result (λ n. n ≤ length buf.new) }
+    ensures bytes { IfOk result (λ n. Consumes (R.remaining from.old) (R.remaining from.new) (take n buf.new)) }
+    ensures end { IfOk result (λ n. n < length buf.new → IsAtEnd (R.remaining from.new)) }
 {
-    let len = buf.len();
-    let mut rest = buf;
-    while !rest.is_empty() {
-        let n = read_some(from, rest)?;
+    let mut at = 0;
+    // By a place in buf: of a rest that is walked along nothing is known once it is given back.
+    while at < buf.len() {
+        let n = read_some(from, &mut buf[at..])?;
         if n == 0 {
             break;
         }
-        rest = &mut rest[n..];
+        at += n;
     }
-    Ok(len - rest.len())
+    Ok(at)
 }
 
 // The first bytes of a file, as many as there are and buf has room for.

@@ -14,6 +14,6 @@ fn meaning(refusal: OpenRefusal) -> &'static str {
     }
 }
 
-pub fn refused<'a>(refusal: OpenRefusal) -> Problem<'a> {
+pub fn refused(refusal: OpenRefusal) -> Problem<'static> {
     Problem::Refused(refusal.number(), refusal.frame(), meaning(refusal))
 }
