@@ -24,9 +24,13 @@ struct StrongboxOpen;
 
 impl Tool for StrongboxOpen {
     const PROGRAM: Program = Program::Open;
+
     const NAME: &'static str = "strongbox-open";
+
     const VERSION: &'static str = "strongbox-open 1.0.0";
-    const HELP: &'static str = "Usage: strongbox-open --key FILE [--context NAME=VALUE..] [--force] INPUT OUTPUT
+
+    const HELP: &'static str =
+        "Usage: strongbox-open --key FILE [--context NAME=VALUE..] [--force] INPUT OUTPUT
        strongbox-open --header INPUT
 Opens the message INPUT into the file OUTPUT, and prints its encryption context.
 

@@ -23,8 +23,11 @@ pub fn pass<'a, W: Write>(
     let mut file = File::open(rt, command.input).reading(command.input)?;
     let len = read_full(&mut file, start).reading(command.input)?;
     let begun = &start[..len];
-    let mut opener =
-        Opener::new(key, begun).map_err(|refusal| not_begun(refusal, begun, command.input))?;
+    let mut opener = Opener::new(key, begun).map_err(|refusal| not_begun(
+        refusal,
+        begun,
+        command.input,
+    ))?;
     let header = &begun[..opener.header_len().min(len)];
     let digest = pass_frames(rt, command, file, header, &mut opener, out);
     let end = opener.finish();
@@ -59,8 +62,10 @@ fn pass_frames<'a, W: Write>(
     out: &mut W,
 ) -> Result<[u8; 64], Problem<'a>> {
     let frame_length = opener.frame_length();
-    let window = Window::new(frame_length as usize + FINAL_BESIDE)
-        .ok_or(Problem::LongFrames(command.input, frame_length))?;
+    let window = Window::new(frame_length as usize + FINAL_BESIDE).ok_or(Problem::LongFrames(
+        command.input,
+        frame_length,
+    ))?;
     let source = Source::after(rt, file, header, window).reading(command.input)?;
     let mut frames = Frames {
         command,

@@ -11,8 +11,11 @@ use std::process::ExitCode;
 // What a program is called, what it says of itself, and what it does.
 pub trait Tool {
     const PROGRAM: Program;
+
     const NAME: &'static str;
+
     const VERSION: &'static str;
+
     const HELP: &'static str;
 
     fn run<'a>(rt: &HostRuntime, given: &[Given<'a>]) -> Result<(), Problem<'a>>;
@@ -39,7 +42,9 @@ fn complain<T: Tool>(rt: &HostRuntime, problem: Problem) -> ExitCode {
 // The words after the program's own name.
 fn words(rt: &HostRuntime) -> Result<Vec<String>, Problem<'static>> {
     let args = env::args(rt).reading("the command line")?;
-    args.skip(1).collect(rt.alloc()).map_err(|_| Problem::Memory)
+    args.skip(1)
+        .collect(rt.alloc())
+        .map_err(|_| Problem::Memory)
 }
 
 fn run_words<'a, T: Tool>(rt: &HostRuntime, words: &'a [String]) -> Result<(), Problem<'a>> {

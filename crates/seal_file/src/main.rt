@@ -22,8 +22,11 @@ struct StrongboxSeal;
 
 impl Tool for StrongboxSeal {
     const PROGRAM: Program = Program::Seal;
+
     const NAME: &'static str = "strongbox-seal";
+
     const VERSION: &'static str = "strongbox-seal 1.0.0";
+
     const HELP: &'static str =
         "Usage: strongbox-seal --key FILE --data-key PROVIDER_ID:PROVIDER_INFO:FILE [OPTION..] INPUT OUTPUT
 Seals the file INPUT into a message, the file OUTPUT.
@@ -94,6 +97,7 @@ fn report<'a>(rt: &HostRuntime, sealed: Sealed) -> Result<(), Problem<'a>> {
         frames,
         message,
     } = sealed;
-    eprintln!(rt; "{name}: {text} bytes in, {message} bytes out, frames: {frames}")
-        .writing("standard error")
+    eprintln!(rt; "{name}: {text} bytes in, {message} bytes out, frames: {frames}").writing(
+        "standard error",
+    )
 }

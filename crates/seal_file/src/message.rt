@@ -24,6 +24,15 @@ pub struct Sealed {
     pub message: u64,
 }
 
+impl Sealed {
+    // One more frame, with so many bytes of text.
+    fn add(&mut self, text_len: usize, frame_len: usize) {
+        self.text = self.text.saturating_add(text_len as u64);
+        self.frames = self.frames.saturating_add(1);
+        self.message = self.message.saturating_add(frame_len as u64);
+    }
+}
+
 #[derive(Clone, Copy, PartialEq)]
 enum FrameKind {
     Regular,
@@ -81,8 +90,7 @@ fn write_message<'a>(
 ) -> Result<Sealed, Problem<'a>> {
     let mut start = [0; START_ROOM];
     // The key and the id have 32 bytes, names rise and there is a data key, so a header that is refused is too long.
-    let (sealer, len) =
-        Sealer::begin(key, header, &mut start).map_err(|_| Problem::HeaderTooLong)?;
+    let (sealer, len) = Sealer::begin(key, header, &mut start).map_err(|_| Problem::HeaderTooLong)?;
     let begun = start.get(..len).ok_or(Problem::HeaderTooLong)?;
     output.write_all(begun).writing(command.output)?;
     let text = Window::new(command.frame_length as usize + 1).ok_or(Problem::FrameLength)?;
@@ -90,6 +98,7 @@ fn write_message<'a>(
         command,
         source,
         text,
+        frame: [0; FRAME_ROOM],
         sealer,
         sealed: Sealed {
             text: 0,
@@ -103,12 +112,13 @@ fn write_message<'a>(
     Ok(frames.sealed)
 }
 
-// A file as it is sealed, with its text that was read and not sealed yet, and what was sealed before.
+// A file as it is sealed: its text that was read and not sealed yet, room for a frame, and what was sealed before.
 #[derive(Drop)]
 struct Frames<'a> {
     command: SealCommand<'a>,
     source: File,
     text: Window<WINDOW_ROOM>,
+    frame: [u8; FRAME_ROOM],
     sealer: Sealer,
     sealed: Sealed,
 }
@@ -130,7 +140,9 @@ impl<'a> Frames<'a> {
 
     // There is room for the text of a frame and one byte more, which tells whether text is left; that one waits for the next frame.
     fn write_next(&mut self, output: &mut Output<'a>) -> Result<FrameKind, Problem<'a>> {
-        self.text.fill(&mut self.source).reading(self.command.input)?;
+        self.text
+            .fill(&mut self.source)
+            .reading(self.command.input)?;
         let have = self.text.held().len();
         if self.text.is_full() && have > 0 {
             self.put(output, FrameKind::Regular, have - 1)?;
@@ -147,23 +159,16 @@ impl<'a> Frames<'a> {
         kind: FrameKind,
         len: usize,
     ) -> Result<(), Problem<'a>> {
-        let mut room = [0; FRAME_ROOM];
         let text = self.text.held().get(..len).ok_or(Problem::FrameLength)?;
-        let out = room
+        let out = self
+            .frame
             .get_mut(..text.len() + kind.beside())
             .ok_or(Problem::FrameLength)?;
         kind.seal(&mut self.sealer, text, out)
             .map_err(|_| Problem::FrameLength)?;
         output.write_all(out).writing(self.command.output)?;
+        self.sealed.add(text.len(), out.len());
         self.text.take(len);
-        self.count(len as u64, out.len() as u64);
         Ok(())
-    }
-
-    fn count(&mut self, text: u64, message: u64) {
-        let sealed = &mut self.sealed;
-        sealed.text = sealed.text.saturating_add(text);
-        sealed.frames = sealed.frames.saturating_add(1);
-        sealed.message = sealed.message.saturating_add(message);
     }
 }
