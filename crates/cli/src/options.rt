@@ -9,7 +9,7 @@ pub enum Program {
 }
 
 // What a word of the command line is for.
-#[derive(Clone, Copy, PartialEq, Eq)]
+#[derive(Clone, Copy, PartialEq, Eq, Debug)]
 pub enum Kind {
     Key,
     DataKey,
