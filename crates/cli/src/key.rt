@@ -8,9 +8,7 @@ use crate::hex::unhex32;
 pub fn parse_key(bytes: &[u8]) -> Option<[u8; 32]>
     ensures value { result ≡ key_of bytes.now }
 {
-    if bytes.len() == 32 {
-        let mut key = [0; 32];
-        key.copy_from_slice(bytes);
+    if let Ok(key) = <[u8; 32]>::try_from(bytes) {
         return Some(key);
     }
     if bytes.len() == 65 && bytes[64] == b'\n' {
