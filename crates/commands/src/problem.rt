@@ -1,4 +1,6 @@
-// What can go wrong, as one line for a person.
+// What can go wrong, as one line for a person. The impls are by hand: the programs depend on no crate from outside, and the `From` that
+// `thiserror` writes has no contract.
+use crate::limits::{MAX_FRAME_LENGTH, MAX_HEADER, MAX_TEXT};
 use cli::context::AddError;
 use cli::options::Kind;
 use cli::scan::ScanError;
@@ -103,16 +105,20 @@ impl fmt::Display for Problem<'_> {
                 f,
                 "--data-key {word:?} is not PROVIDER_ID:PROVIDER_INFO:FILE"
             ),
-            Problem::FrameLength => f.write_str("--frame-length is not a number from 1 to 16384"),
+            Problem::FrameLength => write!(
+                f,
+                "--frame-length is not a number from 1 to {MAX_FRAME_LENGTH}"
+            ),
             Problem::Id => f.write_str("--id is not 64 hexadecimal digits"),
             Problem::NoKey(path) => write!(
                 f,
                 "{path:?} is not a key: 32 bytes, or 64 hexadecimal digits"
             ),
-            Problem::HeaderTooLong => f.write_str(
-                "context and encrypted data keys make a header of more than 16384 bytes",
+            Problem::HeaderTooLong => write!(
+                f,
+                "context and encrypted data keys make a header of more than {MAX_HEADER} bytes"
             ),
-            Problem::TextTooLong(path) => write!(f, "{path:?} has more than 67108864 bytes"),
+            Problem::TextTooLong(path) => write!(f, "{path:?} has more than {MAX_TEXT} bytes"),
             Problem::Exists(path) => write!(f, "{path:?} exists; --force replaces it"),
             Problem::NoFile(path) => write!(f, "{path:?} is not a regular file"),
             Problem::File(action, path, error) => write!(f, "cannot {action} {path:?}: {error}"),
@@ -132,15 +138,15 @@ impl fmt::Display for Problem<'_> {
             ),
             Problem::LongHeader(path) => write!(
                 f,
-                "{path:?} has a header of more than 16384 bytes"
+                "{path:?} has a header of more than {MAX_HEADER} bytes"
             ),
             Problem::LongFrames(path, n) => write!(
                 f,
-                "{path:?} has frames of {n} bytes; the most is 16384"
+                "{path:?} has frames of {n} bytes; the most is {MAX_FRAME_LENGTH}"
             ),
             Problem::LongMessage(path) => write!(
                 f,
-                "the text in {path:?} has more than 67108864 bytes"
+                "the text in {path:?} has more than {MAX_TEXT} bytes"
             ),
             Problem::Changed(path) => write!(f, "{path:?} changed while it was read"),
             Problem::NoText => f.write_str("a word of the command line is not UTF-8"),
