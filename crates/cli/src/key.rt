@@ -11,6 +11,7 @@ pub fn parse_key(bytes: &[u8]) -> Option<[u8; 32]>
     if let Ok(key) = <[u8; 32]>::try_from(bytes) {
         return Some(key);
     }
+    // Only the byte behind 64 digits is compared: `strip_suffix` would compare a digit of the key where there is none.
     if bytes.len() == 65 && bytes[64] == b'\n' {
         return unhex32(&bytes[0..64]);
     }

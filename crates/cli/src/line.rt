@@ -28,7 +28,7 @@ impl<'a> Model for CommandLine<'a> {
 }
 
 impl<'a> CommandLine<'a> {
-    pub fn of(given: Vec<Given<'a>>) -> CommandLine<'a>
+    pub(crate) fn of(given: Vec<Given<'a>>) -> CommandLine<'a>
         ensures value { result ≡ map item given.entry.items }
     {
         CommandLine { given }
