@@ -10,8 +10,9 @@ mod show;
 mod source;
 mod target;
 
+use cli::line::CommandLine;
 use cli::options::{Kind, Program};
-use cli::scan::{Given, scan};
+use cli::scan::scan;
 use commands::context::context_of;
 use commands::given::is_given;
 use commands::open::{OpenCommand, header_command, open_command};
@@ -57,20 +58,20 @@ fn main(rt: HostRuntime) -> ExitCode {
 }
 
 fn run<'a>(rt: &HostRuntime, words: &'a [String]) -> Result<(), Problem<'a>> {
-    let given = scan(rt.alloc(), Program::Open, words)?;
-    if is_given(rt.alloc(), given.as_slice(), Kind::Help)? {
+    let line = scan(rt.alloc(), Program::Open, words)?;
+    if is_given(&line, Kind::Help)? {
         return say(rt, HELP);
     }
-    if is_given(rt.alloc(), given.as_slice(), Kind::Version)? {
+    if is_given(&line, Kind::Version)? {
         return say(rt, VERSION);
     }
-    if is_given(rt.alloc(), given.as_slice(), Kind::Header)? {
-        let input = header_command(rt.alloc(), given.as_slice())?;
+    if is_given(&line, Kind::Header)? {
+        let input = header_command(&line)?;
         return print_header(rt, input);
     }
-    let command = open_command(rt.alloc(), given.as_slice())?;
+    let command = open_command(&line)?;
     let mut key = [0; 32];
-    let result = open_with(rt, command, given.as_slice(), &mut key);
+    let result = open_with(rt, command, &line, &mut key);
     wipe(rt, &mut key);
     result
 }
@@ -79,14 +80,14 @@ fn run<'a>(rt: &HostRuntime, words: &'a [String]) -> Result<(), Problem<'a>> {
 fn open_with<'a>(
     rt: &HostRuntime,
     command: OpenCommand<'a>,
-    given: &[Given<'a>],
+    line: &CommandLine<'a>,
     key: &mut [u8; 32],
 ) -> Result<(), Problem<'a>> {
-    let wanted = context_of(rt.alloc(), given)?;
+    let wanted = context_of(rt.alloc(), line)?;
     check_output(rt, command.output, command.force)?;
     check_input(rt, command.input)?;
     read_key(rt, command.key, key)?;
-    open_file(rt, command, wanted.as_slice(), key)
+    open_file(rt, command, wanted.pairs(), key)
 }
 
 // A message is gone through twice, which only a regular file allows.

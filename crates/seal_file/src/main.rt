@@ -4,8 +4,9 @@
 mod inputs;
 mod message;
 
+use cli::line::CommandLine;
 use cli::options::{Kind, Program};
-use cli::scan::{Given, scan};
+use cli::scan::scan;
 use commands::context::context_of;
 use commands::data_keys::data_keys_of;
 use commands::given::is_given;
@@ -67,16 +68,16 @@ fn no_words(error: io::Error) -> Problem<'static> {
 }
 
 fn run<'a>(rt: &HostRuntime, words: &'a [String]) -> Result<(), Problem<'a>> {
-    let given = scan(rt.alloc(), Program::Seal, words)?;
-    if is_given(rt.alloc(), given.as_slice(), Kind::Help)? {
+    let line = scan(rt.alloc(), Program::Seal, words)?;
+    if is_given(&line, Kind::Help)? {
         return say(rt, HELP);
     }
-    if is_given(rt.alloc(), given.as_slice(), Kind::Version)? {
+    if is_given(&line, Kind::Version)? {
         return say(rt, VERSION);
     }
-    let command = seal_command(rt.alloc(), given.as_slice())?;
+    let command = seal_command(&line)?;
     let mut key = [0; 32];
-    let result = seal_with(rt, command, given.as_slice(), &mut key);
+    let result = seal_with(rt, command, &line, &mut key);
     wipe(rt, &mut key);
     result
 }
@@ -85,16 +86,16 @@ fn run<'a>(rt: &HostRuntime, words: &'a [String]) -> Result<(), Problem<'a>> {
 fn seal_with<'a>(
     rt: &HostRuntime,
     command: SealCommand<'a>,
-    given: &[Given<'a>],
+    line: &CommandLine<'a>,
     key: &mut [u8; 32],
 ) -> Result<(), Problem<'a>> {
-    let context = context_of(rt.alloc(), given)?;
-    let words = data_keys_of(rt.alloc(), given)?;
+    let context = context_of(rt.alloc(), line)?;
+    let words = data_keys_of(rt.alloc(), line)?;
     check_output(rt, command.output, command.force)?;
     let expected = check_input(rt, command.input)?;
     read_key(rt, command.key, key)?;
     let ciphertexts = read_data_keys(rt, words.as_slice())?;
-    let pairs = pairs_of(rt, context.as_slice())?;
+    let pairs = pairs_of(rt, context.pairs())?;
     let data_keys = encrypted_keys(rt, words.as_slice(), ciphertexts.as_slice())?;
     let id = message_id(rt, command.id)?;
     let header = HeaderRequest {
