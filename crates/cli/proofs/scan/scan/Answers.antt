@@ -1,17 +1,10 @@
 use Rattle.std.proofs.Common.{◌≡◌, Some, None, Ok, arith, map, vec_items, sym, ap, ◌∙◌}
 use Rattle.std.proofs.lemmas.Result.{err_from_is_err_and}
 use Rattle.cli.specs.declared.scan.ScanError.TheVariants.{Unknown}
-use Rattle.cli.specs.declared.scan.Expects.TheVariants.{Word}
 use Rattle.cli.specs.Line.{item}
-use Rattle.cli.specs.Scan.{scan_from, words_of}
-use Rattle.cli.proofs.Words.{items_before, none_before, word_unknown, word_taken, word_passed, value_missing, words_done}
+use Rattle.cli.proofs.Words.{word_unknown, word_taken, word_passed, value_missing, words_done}
 use Rattle.cli.proofs.scan.scan.Goals as goal
 use Rattle.cli.proofs.scan.scan.Goals.{in-Some+in_ok-push, in_default}
-
-pub loop-word-init : goal.loop-word-init
-loop-word-init c =
-    ap (λ xs. items_before (map item xs) (scan_from c.args.program Word (words_of c.args.words.now))) c.new-all.ensures.items
-    ∙ none_before (scan_from c.args.program Word (words_of c.args.words.now))
 
 pub returns-in_err-step : goal.returns-in_err-step
 returns-in_err-step c =
