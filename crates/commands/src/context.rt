@@ -1,5 +1,6 @@
 // The encryption context that words give.
-ghost use Rattle.std.specs.Prelude.{◌≡◌, [], IfOk, Some};
+ghost use Rattle.std.specs.Prelude.{◌≡◌, true, [], IfOk, Some};
+ghost use Rattle.cli.specs.Context.{rising};
 ghost use Rattle.cli.specs.Line.{texts};
 ghost use Rattle.commands.specs.Given.{context_from};
 
@@ -11,8 +12,10 @@ use cli::split::split_pair;
 use std::alloc::Global;
 
 // The encryption context, in the order of the names.
+#[tactic(auto, unfolding(cli::specs::Context::rising))]
 pub fn context_of<'a>(heap: Global, line: &CommandLine<'a>) -> Result<Context<'a>, Problem<'a>>
     ensures value { IfOk result (λ context. context_from [] (texts Kind.Context line.now) ≡ Some context) }
+    ensures order { IfOk result (λ context. rising context ≡ true) }
 {
     let mut context = Context::new(heap);
     for word in line.texts(Kind::Context) {

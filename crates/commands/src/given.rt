@@ -36,6 +36,7 @@ pub fn operands<'a>(line: &CommandLine<'a>) -> Result<(&'a str, &'a str), Proble
 // Whether an option that takes no value is given.
 pub fn is_given<'a>(line: &CommandLine<'a>, kind: Kind) -> Result<bool, Problem<'a>>
     ensures value { IfOk result (λ b. b ≡ some_of (texts kind line.now)) }
+    ensures refused { IfErr result (λ e. (e ≡ Problem.Repeated kind) × (1 < length (texts kind line.now))) }
 {
     Ok(sole(line, kind)?.is_some())
 }
@@ -43,6 +44,7 @@ pub fn is_given<'a>(line: &CommandLine<'a>, kind: Kind) -> Result<bool, Problem<
 // The text of --key, which has to be given.
 pub fn key_of<'a>(line: &CommandLine<'a>) -> Result<&'a str, Problem<'a>>
     ensures value { IfOk result (λ k. texts Kind.Key line.now ≡ k.now ∷ []) }
+    ensures refused { IfErr result (λ _. length (texts Kind.Key line.now) ≢ 1) }
 {
     sole(line, Kind::Key)?.ok_or(Problem::Missing(Kind::Key))
 }

@@ -1,5 +1,5 @@
 // The command to seal a file.
-ghost use Rattle.std.specs.Prelude.{◌≡◌, IfOk, Some};
+ghost use Rattle.std.specs.Prelude.{◌≡◌, IfOk, IfErr, Some, None};
 ghost use Rattle.cli.specs.Line.{texts};
 ghost use Rattle.commands.specs.Seal.{frame_length_of, id_of, SealGiven};
 
@@ -23,7 +23,8 @@ pub struct SealCommand<'a> {
 }
 
 fn frame_length_of<'a>(line: &CommandLine<'a>) -> Result<u32, Problem<'a>>
-    ensures { IfOk result (λ n. Some n ≡ frame_length_of (texts Kind.FrameLength line.now)) }
+    ensures value { IfOk result (λ n. Some n ≡ frame_length_of (texts Kind.FrameLength line.now)) }
+    ensures refused { IfErr result (λ _. frame_length_of (texts Kind.FrameLength line.now) ≡ None) }
 {
     let Some(text) = sole(line, Kind::FrameLength)? else {
         return Ok(DEFAULT_FRAME_LENGTH);
@@ -32,7 +33,8 @@ fn frame_length_of<'a>(line: &CommandLine<'a>) -> Result<u32, Problem<'a>>
 }
 
 fn id_of<'a>(line: &CommandLine<'a>) -> Result<Option<[u8; 32]>, Problem<'a>>
-    ensures { IfOk result (λ o. Some o ≡ id_of (texts Kind.Id line.now)) }
+    ensures value { IfOk result (λ o. Some o ≡ id_of (texts Kind.Id line.now)) }
+    ensures refused { IfErr result (λ _. id_of (texts Kind.Id line.now) ≡ None) }
 {
     let Some(text) = sole(line, Kind::Id)? else {
         return Ok(None);
@@ -40,7 +42,8 @@ fn id_of<'a>(line: &CommandLine<'a>) -> Result<Option<[u8; 32]>, Problem<'a>>
     unhex32(text.as_bytes()).map(Some).ok_or(Problem::Id)
 }
 
-// What is asked but for the context and the encrypted data keys.
+// What is asked but for the context and the encrypted data keys. It isn't made of `open_command`: the words are looked at in this order,
+// which decides what is complained of first.
 pub fn seal_command<'a>(line: &CommandLine<'a>) -> Result<SealCommand<'a>, Problem<'a>>
     ensures value { IfOk result (λ s. SealGiven line.now s) }
 {

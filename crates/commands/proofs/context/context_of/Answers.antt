@@ -7,11 +7,13 @@ use Rattle.commands.proofs.context.context_of.Goals as goal
 
 pub loop-word-preserved : goal.loop-word-preserved
 loop-word-preserved c =
-    let s : Some (c.in_ok-name.name, c.in_ok-name.value) ≡ c.split_pair.result = grind (arith, c.in_ok-name.ensures.value) in
-    pair_more c.in-Some.word.now c.next.new.self c.in_ok-name.name c.in_ok-name.value c.loop-word.context c.add.new.self (ap (option_map parts) s ∙ c.split_pair.ensures.value) c.in_ok-add.ensures.value.0
-    ∙ ap (context_from c.loop-word.context) (sym c.in-Some.ensures.steps)
-    ∙ c.loop-word.invariant
+    let s : Some (c.in_ok-name.name, c.in_ok-name.value) ≡ c.split_pair.result = grind (arith, c.in_ok-name.ensures.value) in (
+      pair_more c.in-Some.word.now c.next.new.self c.in_ok-name.name c.in_ok-name.value c.loop-word.context c.add.new.self (ap (option_map parts) s ∙ c.split_pair.ensures.value) c.in_ok-add.ensures.value.0
+          ∙ ap (context_from c.loop-word.context) (sym c.in-Some.ensures.steps)
+          ∙ c.loop-word.invariant.0,
+      c.in_ok-add.ensures.value.1 c.loop-word.invariant.1,
+    )
 
 pub returns : goal.returns
 unfolding context_from
-returns c = record { value = sym c.loop-word.invariant ∙ ap (context_from c.loop-word.context) c.in-None.ensures.steps.0 }
+returns c = record { value = sym c.loop-word.invariant.0 ∙ ap (context_from c.loop-word.context) c.in-None.ensures.steps.0; order = c.loop-word.invariant.1 }
