@@ -9,8 +9,8 @@ mod refusal;
 mod show;
 mod source;
 
+use cli::line::CommandLine;
 use cli::options::{Kind, Program};
-use cli::scan::Given;
 use commands::context::context_of;
 use commands::given::is_given;
 use commands::open::{header_command, open_command};
@@ -41,13 +41,13 @@ Opens the message INPUT into the file OUTPUT, and prints its encryption context.
   --help                print this
   --version             print the version";
 
-    fn run<'a>(rt: &HostRuntime, given: &[Given<'a>]) -> Result<(), Problem<'a>> {
-        if is_given(rt.alloc(), given, Kind::Header)? {
-            let input = header_command(rt.alloc(), given)?;
+    fn run<'a>(rt: &HostRuntime, line: &CommandLine<'a>) -> Result<(), Problem<'a>> {
+        if is_given(line, Kind::Header)? {
+            let input = header_command(line)?;
             return print_header(rt, input);
         }
-        let command = open_command(rt.alloc(), given)?;
-        let wanted = context_of(rt.alloc(), given)?;
+        let command = open_command(line)?;
+        let wanted = context_of(rt.alloc(), line)?;
         check_output(rt, command.output, command.force)?;
         // A message is gone through twice, which only a regular file allows.
         input_len(rt, command.input)?;

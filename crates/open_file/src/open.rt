@@ -1,7 +1,7 @@
 // A message opened: gone through once to check it, and once more to write its text.
 use crate::context::{check_context, print_context};
 use crate::message::pass;
-use cli::context::Pair as NamedValue;
+use cli::context::Context;
 use commands::open::OpenCommand;
 use commands::problem::Problem;
 use header_read::read_header;
@@ -12,7 +12,7 @@ use std::io;
 #[derive(Drop)]
 pub struct Asked<'a> {
     pub command: OpenCommand<'a>,
-    pub wanted: Vec<NamedValue<'a>>,
+    pub wanted: Context<'a>,
 }
 
 impl<'a> Asked<'a> {
@@ -21,7 +21,7 @@ impl<'a> Asked<'a> {
         let mut start = [0; START_ROOM];
         let digest = pass(rt, self.command, key, &mut start, &mut io::sink())?;
         let read = read_header(&start).ok_or(Problem::Changed(self.command.input))?;
-        check_context(read.header.context, self.wanted.as_slice())?;
+        check_context(read.header.context, self.wanted.pairs())?;
         self.write_text(rt, key, &digest)?;
         print_context(rt, read.header.context)
     }

@@ -15,5 +15,10 @@ fn meaning(refusal: OpenRefusal) -> &'static str {
 }
 
 pub fn refused(refusal: OpenRefusal) -> Problem<'static> {
-    Problem::Refused(refusal.number(), refusal.frame(), meaning(refusal))
+    let frame = refusal.frame();
+    Problem::Refused {
+        number: refusal.number(),
+        frame: (frame != 0).then_some(frame),
+        why: meaning(refusal),
+    }
 }

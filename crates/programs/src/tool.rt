@@ -1,8 +1,9 @@
 // A program of the command line.
 use crate::file_result::FileResult;
 use crate::output::say;
+use cli::line::CommandLine;
 use cli::options::{Kind, Program};
-use cli::scan::{Given, scan};
+use cli::scan::scan;
 use commands::given::is_given;
 use commands::problem::Problem;
 use std::env;
@@ -18,7 +19,7 @@ pub trait Tool {
 
     const HELP: &'static str;
 
-    fn run<'a>(rt: &HostRuntime, given: &[Given<'a>]) -> Result<(), Problem<'a>>;
+    fn run<'a>(rt: &HostRuntime, line: &CommandLine<'a>) -> Result<(), Problem<'a>>;
 }
 
 // The whole program: whatever it can't do is one line on standard error.
@@ -42,18 +43,16 @@ fn complain<T: Tool>(rt: &HostRuntime, problem: Problem) -> ExitCode {
 // The words after the program's own name.
 fn words(rt: &HostRuntime) -> Result<Vec<String>, Problem<'static>> {
     let args = env::args(rt).reading("the command line")?;
-    args.skip(1)
-        .collect(rt.alloc())
-        .map_err(|_| Problem::Memory)
+    Ok(args.skip(1).collect(rt.alloc())?)
 }
 
 fn run_words<'a, T: Tool>(rt: &HostRuntime, words: &'a [String]) -> Result<(), Problem<'a>> {
-    let given = scan(rt.alloc(), T::PROGRAM, words)?;
-    if is_given(rt.alloc(), given.as_slice(), Kind::Help)? {
+    let line = scan(rt.alloc(), T::PROGRAM, words)?;
+    if is_given(&line, Kind::Help)? {
         return say(rt, T::HELP);
     }
-    if is_given(rt.alloc(), given.as_slice(), Kind::Version)? {
+    if is_given(&line, Kind::Version)? {
         return say(rt, T::VERSION);
     }
-    T::run(rt, given.as_slice())
+    T::run(rt, &line)
 }

@@ -4,9 +4,9 @@
 mod inputs;
 mod message;
 
-use cli::context::Pair as NamedValue;
+use cli::context::Context;
+use cli::line::CommandLine;
 use cli::options::Program;
-use cli::scan::Given;
 use cli::split::DataKeyWord;
 use commands::context::context_of;
 use commands::data_keys::data_keys_of;
@@ -42,10 +42,10 @@ Seals the file INPUT into a message, the file OUTPUT.
   --help                print this
   --version             print the version";
 
-    fn run<'a>(rt: &HostRuntime, given: &[Given<'a>]) -> Result<(), Problem<'a>> {
-        let command = seal_command(rt.alloc(), given)?;
-        let context = context_of(rt.alloc(), given)?;
-        let data_keys = data_keys_of(rt.alloc(), given)?;
+    fn run<'a>(rt: &HostRuntime, line: &CommandLine<'a>) -> Result<(), Problem<'a>> {
+        let command = seal_command(line)?;
+        let context = context_of(rt.alloc(), line)?;
+        let data_keys = data_keys_of(rt.alloc(), line)?;
         check_output(rt, command.output, command.force)?;
         let text_len = text_len(rt, command.input)?;
         let asked = Asked {
@@ -67,7 +67,7 @@ fn main(rt: HostRuntime) -> ExitCode {
 #[derive(Drop)]
 struct Asked<'a> {
     command: SealCommand<'a>,
-    context: Vec<NamedValue<'a>>,
+    context: Context<'a>,
     data_keys: Vec<DataKeyWord<'a>>,
     text_len: u64,
 }
@@ -77,7 +77,7 @@ impl<'a> Asked<'a> {
     fn seal(&self, rt: &HostRuntime, key: &[u8; 32]) -> Result<Sealed, Problem<'a>> {
         let words = self.data_keys.as_slice();
         let ciphertexts = read_data_keys(rt, words)?;
-        let pairs = pairs_of(rt, self.context.as_slice())?;
+        let pairs = pairs_of(rt, self.context.pairs())?;
         let data_keys = encrypted_keys(rt, words, ciphertexts.as_slice())?;
         let id = message_id(rt, self.command.id)?;
         let header = HeaderRequest {
