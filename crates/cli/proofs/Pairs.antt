@@ -1,70 +1,104 @@
 -- A pair in its place: where it goes, and that names in order stay so.
-use Rattle.std.proofs.Common.{◌≡◌, ℕ, suc, ◌+◌, ◌<◌, ◌≤◌, Bool, true, false, cond, ◌&&◌, List, [], ◌∷◌, ◌++◌, map, length, get_or, take, drop, Some, None, Option, sym, refl, ap, ◌∙◌, subst, ap₂, arith}
-use Rattle.std.proofs.lemmas.List.{at_drop_more, at_drop_all, take-map, drop-map, map-append, get_or-map, length-map}
+use Rattle.std.proofs.Common.{◌≡◌, ℕ, zero, suc, ◌<◌, ◌≤◌, Bool, true, false, cond, ◌&&◌, List, [], ◌∷◌, map, length, get_or, Some, None, Option, sym, refl, ap, ◌∙◌, arith, add-one}
+use Rattle.std.proofs.lemmas.List.Sorted.{IsNonDecreasingBy-from_all_adjacent}
 use Rattle.std.proofs.lemmas.Bool.{cond-true, cond-false, and_parts, and_from}
-use Rattle.std.specs.List.{insert}
+use Rattle.std.proofs.lemmas.Bool.Decides.{nat_tests}
+use Rattle.std.proofs.lemmas.Cmp.{same_from_slice_cmp, nat_list_cmp_total}
+use Rattle.std.specs.Cmp.Lexicographic.{slice_cmp}
+use Rattle.std.specs.List.{insert, HoldsAt}
+use Rattle.std.specs.List.Sorted.{IsNonDecreasingBy, IsPartitionPoint}
 use Rattle.std.specs.Option.{option_map}
+use Rattle.std.specs.Ordering.{nat_cmp, is_lt, is_eq, ordering_index, ordering_reverse}
+use Rattle.std.specs.declared.cmp.Ordering.{Ordering}
+use Rattle.std.specs.declared.cmp.Ordering.TheVariants.{Less, Equal, Greater}
 use Rattle.octets.proofs.Order.{bytes_lt_total}
 use Rattle.octets.specs.Bytes.{bytes_lt, bytes_eq}
 use Rattle.cli.specs.declared.context.Pair.{Pair}
-use Rattle.cli.specs.Context.{NamedValue, pair_of, place_of, with_pair, rising}
+use Rattle.cli.specs.Context.{NamedValue, pair_of, with_pair, rising}
 
--- the place, from some place on
-pub place_more : (n : List ℕ) (ps : List Pair) (i : ℕ) (d : Pair) → i < length ps → bytes_lt (get_or ps i d).name.now n ≡ true → place_of n (map pair_of (drop i ps)) ≡ suc (place_of n (map pair_of (drop (i + 1) ps)))
-unfolding place_of
-place_more n ps i d h e = at_drop_more (λ qs. place_of n (map pair_of qs)) ps i d h ∙ cond-true _ _ _ e
+-- the tests of names, by their order
+before : (xs ys : List ℕ) (o : Ordering) → o ≡ slice_cmp nat_cmp xs ys → is_lt o ≡ bytes_lt xs ys
+unfolding bytes_lt
+before = same_from_slice_cmp nat_cmp is_lt bytes_lt refl (λ _ _. refl) (λ _ _. refl) (λ x y xs ys o h. grind (arith, nat_tests))
 
-pub place_here : (n : List ℕ) (ps : List Pair) (i : ℕ) (d : Pair) → i < length ps → bytes_lt (get_or ps i d).name.now n ≡ false → place_of n (map pair_of (drop i ps)) ≡ 0
-unfolding place_of
-place_here n ps i d h e = at_drop_more (λ qs. place_of n (map pair_of qs)) ps i d h ∙ cond-false _ _ _ e
+same : (xs ys : List ℕ) (o : Ordering) → o ≡ slice_cmp nat_cmp xs ys → is_eq o ≡ bytes_eq xs ys
+unfolding bytes_eq
+same = same_from_slice_cmp nat_cmp is_eq bytes_eq refl (λ _ _. refl) (λ _ _. refl) (λ x y xs ys o h. grind (arith, nat_tests))
 
-pub place_end : (n : List ℕ) (ps : List Pair) (i : ℕ) → length ps ≤ i → place_of n (map pair_of (drop i ps)) ≡ 0
-unfolding place_of
-place_end n ps i h = at_drop_all (λ qs. place_of n (map pair_of qs)) ps i h
+-- what the order of two names says of the tests
+less_name : (xs ys : List ℕ) → slice_cmp nat_cmp xs ys ≡ Less → bytes_lt xs ys ≡ true
+less_name xs ys e = sym (before xs ys Less (sym e))
 
--- a name that stands at its place is refused
-named_twice : (p : NamedValue) (qs : List NamedValue) (d : NamedValue) → place_of p.name qs < length qs → bytes_eq (get_or qs (place_of p.name qs) d).name p.name ≡ true → with_pair p qs ≡ None
-unfolding place_of with_pair
-named_twice p [] d h e = absurd (omega arith)
-named_twice p (q ∷ qs) d h e = go (named_twice p qs d) (bytes_lt q.name p.name) h e
+equal_name : (xs ys : List ℕ) → slice_cmp nat_cmp xs ys ≡ Equal → (bytes_lt xs ys ≡ false) × (bytes_eq xs ys ≡ true)
+equal_name xs ys e = (sym (before xs ys Equal (sym e)), sym (same xs ys Equal (sym e)))
+
+greater_name : (xs ys : List ℕ) → slice_cmp nat_cmp xs ys ≡ Greater → (bytes_lt xs ys ≡ false) × (bytes_eq xs ys ≡ false)
+greater_name xs ys e = (sym (before xs ys Greater (sym e)), sym (same xs ys Greater (sym e)))
+
+-- how a lent pair's name stands to a name
+abbrev pub name_order : List ℕ → Pair → Ordering
+name_order n q = slice_cmp nat_cmp q.name.now n
+
+-- a name that is there is refused
+pub named_twice : (p : Pair) (qs : List Pair) (i : ℕ) → i < length qs → IsNonDecreasingBy (λ q. ordering_index (name_order p.name.now q)) qs → HoldsAt (λ q. name_order p.name.now q ≡ Equal) qs i → with_pair (pair_of p) (map pair_of qs) ≡ None
+unfolding with_pair
+named_twice p [] i h r e = absurd (omega arith)
+named_twice p (q ∷ qs) zero h r e = let t = equal_name q.name.now p.name.now (e q) in cond-false _ _ _ t.0 ∙ cond-true _ _ _ t.1
+named_twice p (q ∷ qs) (suc i) h r e =
+    go (name_order p.name.now q) refl (named_twice p qs i (omega arith) (λ j k d a b. r (suc j) (suc k) d (omega arith) (omega arith)) (λ d. e d))
   where
-    go : (place_of p.name qs < length qs → bytes_eq (get_or qs (place_of p.name qs) d).name p.name ≡ true → with_pair p qs ≡ None) → (b : Bool) → cond b (suc (place_of p.name qs)) 0 < suc (length qs)
-        → bytes_eq (get_or (q ∷ qs) (cond b (suc (place_of p.name qs)) 0) d).name p.name ≡ true → cond b (option_map (λ rs. q ∷ rs) (with_pair p qs)) (cond (bytes_eq q.name p.name) None (Some (p ∷ (q ∷ qs)))) ≡ None
-    go ih true k f = ap (option_map (λ rs. q ∷ rs)) (ih (omega arith) f)
-    go ih false k f = cond-true _ _ _ f
+    go : (o : Ordering) → name_order p.name.now q ≡ o → with_pair (pair_of p) (map pair_of qs) ≡ None → with_pair (pair_of p) (map pair_of (q ∷ qs)) ≡ None
+    go Less f ih = cond-true _ _ _ (less_name q.name.now p.name.now f) ∙ ap (option_map (λ rs. pair_of q ∷ rs)) ih
+    go Equal f ih = let t = equal_name q.name.now p.name.now f in cond-false _ _ _ t.0 ∙ cond-true _ _ _ t.1
+    go Greater f ih =
+        let a : ordering_index (name_order p.name.now q) ≤ ordering_index (name_order p.name.now (get_or qs i q)) = r 0 (suc i) q (omega arith) (omega arith) in
+        let b = rw (f, e q) at a in
+        absurd (omega (arith, b))
 
--- otherwise the pair goes there
-put_there : (p : NamedValue) (qs : List NamedValue) (d : NamedValue) → (place_of p.name qs < length qs → bytes_eq (get_or qs (place_of p.name qs) d).name p.name ≡ false) → with_pair p qs ≡ Some (insert qs (place_of p.name qs) p)
-unfolding place_of with_pair
-put_there p [] d e = refl
-put_there p (q ∷ qs) d e = go (put_there p qs d) (bytes_lt q.name p.name) e
+-- otherwise the pair goes between those before it and those after it
+pub put_between : (p : Pair) (qs : List Pair) (i : ℕ) → i ≤ length qs → IsPartitionPoint (λ q. name_order p.name.now q ≡ Less) (λ q. name_order p.name.now q ≡ Greater) qs i → with_pair (pair_of p) (map pair_of qs) ≡ Some (map pair_of (insert qs i p))
+unfolding with_pair
+put_between p [] zero h s = refl
+put_between p [] (suc i) h s = absurd (omega arith)
+put_between p (q ∷ qs) zero h s = let t = greater_name q.name.now p.name.now (s.1 0 q (omega arith) (omega arith)) in cond-false _ _ _ t.0 ∙ cond-false _ _ _ t.1
+put_between p (q ∷ qs) (suc i) h s =
+    cond-true _ _ _ (less_name q.name.now p.name.now (s.0 0 q (omega arith) (omega arith)))
+    ∙ ap (option_map (λ rs. pair_of q ∷ rs)) (put_between p qs i (omega arith) ((λ k d a b. s.0 (suc k) d (omega arith) (omega arith)), (λ k d a b. s.1 (suc k) d (omega arith) (omega arith))))
+
+-- names in order may be searched
+is_less : (o : Ordering) → is_lt o ≡ true → o ≡ Less
+is_less Less e = refl
+is_less Equal e = absurd (let z : ◌≡◌ {A = ℕ} 0 1 = cc in omega arith)
+is_less Greater e = absurd (let z : ◌≡◌ {A = ℕ} 0 1 = cc in omega arith)
+
+at_most_two : (o : Ordering) → ordering_index o ≤ 2
+at_most_two Less = omega arith
+at_most_two Equal = omega arith
+at_most_two Greater = omega arith
+
+rises : (n xs ys : List ℕ) → bytes_lt xs ys ≡ true → ordering_index (slice_cmp nat_cmp xs n) ≤ ordering_index (slice_cmp nat_cmp ys n)
+rises n xs ys e = go (slice_cmp nat_cmp ys n) refl
   where
-    go : ((place_of p.name qs < length qs → bytes_eq (get_or qs (place_of p.name qs) d).name p.name ≡ false) → with_pair p qs ≡ Some (insert qs (place_of p.name qs) p)) → (b : Bool)
-        → (cond b (suc (place_of p.name qs)) 0 < suc (length qs) → bytes_eq (get_or (q ∷ qs) (cond b (suc (place_of p.name qs)) 0) d).name p.name ≡ false)
-        → cond b (option_map (λ rs. q ∷ rs) (with_pair p qs)) (cond (bytes_eq q.name p.name) None (Some (p ∷ (q ∷ qs)))) ≡ Some (insert (q ∷ qs) (cond b (suc (place_of p.name qs)) 0) p)
-    go ih true f = ap (option_map (λ rs. q ∷ rs)) (ih (λ h. f (omega arith)))
-    go ih false f = cond-false _ _ _ (f (omega arith))
+    less : slice_cmp nat_cmp xs ys ≡ Less
+    less = is_less (slice_cmp nat_cmp xs ys) (before xs ys (slice_cmp nat_cmp xs ys) refl ∙ e)
 
--- the same of lent pairs
-named : (ps : List Pair) (k : ℕ) (d : Pair) (n : List ℕ) → k < length ps → bytes_eq (get_or (map pair_of ps) k (pair_of d)).name n ≡ bytes_eq (get_or ps k d).name.now n
-named ps k d n h = ap (λ (q : NamedValue). bytes_eq q.name n) (get_or-map pair_of ps k d (pair_of d) h)
+    go : (o : Ordering) → slice_cmp nat_cmp ys n ≡ o → ordering_index (slice_cmp nat_cmp xs n) ≤ ordering_index (slice_cmp nat_cmp ys n)
+    go Less f = rw (nat_list_cmp_total.trans xs ys n less f, f) (omega arith)
+    go Equal f =
+        let g : slice_cmp nat_cmp ys xs ≡ Greater = nat_list_cmp_total.antisymm ys xs ∙ ap ordering_reverse less in
+        let k : slice_cmp nat_cmp n xs ≡ Greater = sym (nat_list_cmp_total.congr ys n xs f) ∙ g in
+        rw (nat_list_cmp_total.antisymm xs n ∙ ap ordering_reverse k, f) (omega arith)
+    go Greater f = rw f (at_most_two (slice_cmp nat_cmp xs n))
 
-pub pair_twice : (p : Pair) (ps : List Pair) (k : ℕ) (d : Pair) → k ≡ place_of p.name.now (map pair_of ps) → k < length ps → bytes_eq (get_or ps k d).name.now p.name.now ≡ true → with_pair (pair_of p) (map pair_of ps) ≡ None
-pair_twice p ps k d e h f =
-    let l : length (map pair_of ps) ≡ length ps = length-map ps pair_of in
-    let g : bytes_eq (get_or (map pair_of ps) k (pair_of d)).name p.name.now ≡ true = named ps k d p.name.now h ∙ f in
-    named_twice (pair_of p) (map pair_of ps) (pair_of d) (omega arith) (subst (λ (j : ℕ). bytes_eq (get_or (map pair_of ps) j (pair_of d)).name p.name.now ≡ true) e g)
+next_rises : (qs : List Pair) (k : ℕ) (d : Pair) → rising (map pair_of qs) ≡ true → suc k < length qs → bytes_lt (get_or qs k d).name.now (get_or qs (suc k) d).name.now ≡ true
+unfolding rising
+next_rises [] k d r h = absurd (omega arith)
+next_rises (p ∷ []) k d r h = absurd (omega arith)
+next_rises (p ∷ (q ∷ qs)) zero d r h = (and_parts (bytes_lt p.name.now q.name.now) (rising (map pair_of (q ∷ qs))) r).0
+next_rises (p ∷ (q ∷ qs)) (suc k) d r h = next_rises (q ∷ qs) k d (and_parts (bytes_lt p.name.now q.name.now) (rising (map pair_of (q ∷ qs))) r).1 (omega arith)
 
-pub pair_put : (p : Pair) (ps : List Pair) (k : ℕ) (d : Pair) → k ≡ place_of p.name.now (map pair_of ps) → (k < length ps → bytes_eq (get_or ps k d).name.now p.name.now ≡ false)
-    → with_pair (pair_of p) (map pair_of ps) ≡ Some (map pair_of (insert ps k p))
-pair_put p ps k d e f =
-    let l : length (map pair_of ps) ≡ length ps = length-map ps pair_of in
-    let g : k < length (map pair_of ps) → bytes_eq (get_or (map pair_of ps) k (pair_of d)).name p.name.now ≡ false = λ h. let m : k < length ps = omega arith in named ps k d p.name.now m ∙ f m in
-    put_there (pair_of p) (map pair_of ps) (pair_of d) (subst (λ (j : ℕ). j < length (map pair_of ps) → bytes_eq (get_or (map pair_of ps) j (pair_of d)).name p.name.now ≡ false) e g)
-    ∙ ap Some
-    (ap (λ j. insert (map pair_of ps) j (pair_of p)) (sym e)
-    ∙ ap₂ (λ a b. a ++ (pair_of p ∷ b)) (take-map pair_of k ps) (drop-map pair_of k ps)
-    ∙ sym (map-append pair_of (take k ps) (p ∷ drop k ps)))
+pub searchable : (n : List ℕ) (qs : List Pair) → rising (map pair_of qs) ≡ true → IsNonDecreasingBy (λ q. ordering_index (name_order n q)) qs
+searchable n qs r = IsNonDecreasingBy-from_all_adjacent (λ q. ordering_index (name_order n q)) qs (λ k d h. rw (add-one k) (rises n (get_or qs k d).name.now (get_or qs (suc k) d).name.now (next_rises qs k d r (omega arith))))
 
 -- names above n
 unfoldable above : List ℕ → List NamedValue → Bool

@@ -14,6 +14,11 @@ fn meaning(refusal: OpenRefusal) -> &'static str {
     }
 }
 
-pub fn refused<'a>(refusal: OpenRefusal) -> Problem<'a> {
-    Problem::Refused(refusal.number(), refusal.frame(), meaning(refusal))
+pub fn refused(refusal: OpenRefusal) -> Problem<'static> {
+    let frame = refusal.frame();
+    Problem::Refused {
+        number: refusal.number(),
+        frame: (frame != 0).then_some(frame),
+        why: meaning(refusal),
+    }
 }
