@@ -1,89 +1,116 @@
 // The words of a line, one after the other.
-ghost use Rattle.std.specs.Prelude.{◌<◌, IfOk};
+ghost use Rattle.std.specs.Prelude.{◌<◌, IfSome};
 
-use anyhow::anyhow;
-use std::alloc::Global;
+use anyhow::Context;
+use std::alloc::{AllocError, Global};
+use std::slice;
 
+// A word, and the bytes that it says: hexadecimal digits, or `-` for none.
 #[derive(Drop)]
-pub struct Words<'a> {
-    rest: Option<&'a str>,
+pub struct Word<'t> {
+    text: &'t str,
+    bytes: Option<Vec<u8>>,
 }
 
-impl<'a> Words<'a> {
-    pub fn of(line: &'a str) -> Words<'a> {
-        Words { rest: Some(line) }
+impl<'t> Word<'t> {
+    fn of(heap: Global, text: &'t str) -> Result<Word<'t>, AllocError> {
+        let bytes = unhex(heap, text)?;
+        Ok(Word { text, bytes })
     }
 
-    pub fn next(&mut self) -> anyhow::Result<&'a str> {
-        let Some(rest) = self.rest else {
-            return Err(anyhow!("a word is missing"));
-        };
-        match rest.split_once(' ') {
-            Some((word, more)) => {
-                self.rest = Some(more);
-                Ok(word)
-            }
-            None => {
-                self.rest = None;
-                Ok(rest)
-            }
+    // Those of a whole line.
+    pub fn all(heap: Global, line: &'t str) -> Result<Vec<Word<'t>>, AllocError> {
+        line.split(' ')
+            .map(|text| Word::of(heap, text))
+            .try_collect(heap)
+    }
+}
+
+// The words that are left of a line.
+#[derive(Drop)]
+pub struct Words<'w> {
+    pub heap: Global,
+    left: slice::Iter<'w, Word<'w>>,
+}
+
+impl<'w> Words<'w> {
+    pub fn of(heap: Global, words: &'w [Word<'w>]) -> Words<'w> {
+        Words {
+            heap,
+            left: words.iter(),
         }
     }
 
-    pub fn number(&mut self) -> anyhow::Result<u64> {
-        Ok(self.next()?.parse::<u64>()?)
+    fn word(&mut self) -> anyhow::Result<&'w Word<'w>> {
+        self.left.next().context("a word is missing")
     }
 
-    pub fn bytes(&mut self, heap: Global) -> anyhow::Result<Vec<u8>> {
-        unhex(heap, self.next()?.as_bytes())
+    pub fn text(&mut self) -> anyhow::Result<&'w str> {
+        Ok(self.word()?.text)
+    }
+
+    pub fn number(&mut self) -> anyhow::Result<u64> {
+        Ok(self.text()?.parse::<u64>()?)
+    }
+
+    pub fn bytes(&mut self) -> anyhow::Result<&'w [u8]> {
+        let word = self.word()?;
+        let why = if word.text.len() % 2 == 0 {
+            "not a hexadecimal digit"
+        } else {
+            "half a byte"
+        };
+        word.bytes.as_deref().context(why)
+    }
+
+    // Bytes of a length that is known: keys, nonces, tags.
+    pub fn array<const N: usize>(&mut self) -> anyhow::Result<&'w [u8; N]> {
+        <&[u8; N]>::try_from(self.bytes()?)
+            .ok()
+            .context("bytes of another length")
     }
 
     // Whether the next word says these bytes.
-    pub fn are(&mut self, heap: Global, bytes: &[u8]) -> anyhow::Result<bool> {
-        let said = self.bytes(heap)?;
-        Ok(said.as_slice() == bytes)
+    pub fn are(&mut self, bytes: &[u8]) -> anyhow::Result<bool> {
+        Ok(self.bytes()? == bytes)
     }
 
     // Whether the next word is this number.
     pub fn is(&mut self, number: u64) -> anyhow::Result<bool> {
         Ok(self.number()? == number)
     }
-
-    // Bytes of a length that is known: keys, nonces, tags.
-    pub fn fixed<const N: usize>(&mut self, heap: Global) -> anyhow::Result<[u8; N]> {
-        let bytes = self.bytes(heap)?;
-        if bytes.len() != N {
-            return Err(anyhow!("bytes of another length"));
-        }
-        let mut fixed = [0u8; N];
-        fixed.copy_from_slice(bytes.as_slice());
-        Ok(fixed)
-    }
 }
 
-// Hexadecimal digits as bytes; none for `-`.
-fn unhex(heap: Global, digits: &[u8]) -> anyhow::Result<Vec<u8>> {
+// The bytes of hexadecimal digits, none for `-`; nothing for another word.
+fn unhex(heap: Global, word: &str) -> Result<Option<Vec<u8>>, AllocError> {
     let mut bytes = Vec::new(heap);
-    if digits == b"-".as_slice() {
-        return Ok(bytes);
+    if word == "-" {
+        return Ok(Some(bytes));
     }
-    if digits.len() % 2 != 0 {
-        return Err(anyhow!("half a byte"));
+    let (pairs, half) = word.as_bytes().as_chunks::<2>();
+    if !half.is_empty() {
+        return Ok(None);
     }
-    for i in 0..digits.len() / 2 {
-        let high = nibble(digits[2 * i])?;
-        let low = nibble(digits[2 * i + 1])?;
-        bytes.push(high * 16 + low)?;
+    for pair in pairs {
+        let Some(byte) = unhex_byte(*pair) else {
+            return Ok(None);
+        };
+        bytes.push(byte)?;
     }
-    Ok(bytes)
+    Ok(Some(bytes))
 }
 
-fn nibble(digit: u8) -> anyhow::Result<u8>
-    ensures value { IfOk result (λ n. n < 16) }
+fn unhex_byte([high, low]: [u8; 2]) -> Option<u8> {
+    Some(nibble(high)? * 16 + nibble(low)?)
+}
+
+// Small digits alone, where the library's `to_digit` takes capital ones too.
+fn nibble(digit: u8) -> Option<u8>
+    ensures value { IfSome result (λ n. n < 16) }
 {
     match digit {
-        b'0'..=b'9' => Ok(digit - b'0'),
-        b'a'..=b'f' => Ok(digit - b'a' + 10),
-        _ => Err(anyhow!("not a hexadecimal digit")),
+        b'0'..=b'9' => Some(digit - b'0'),
+        b'a'..=b'f' => Some(digit - b'a' + 10),
+        _ => None,
     }
 }
