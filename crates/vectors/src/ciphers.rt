@@ -5,7 +5,7 @@ use anyhow::bail;
 use gcm::Key;
 
 // Each block apart.
-pub fn aes_case(mut words: Words) -> anyhow::Result<bool> {
+pub fn aes_case(words: &mut Words) -> anyhow::Result<bool> {
     let keys = expand_key(words.array::<32>()?);
     let blocks = words.bytes()?;
     let expected = words.bytes()?;
@@ -45,8 +45,8 @@ fn read_piece<'w>(words: &mut Words<'w>) -> anyhow::Result<Piece<'w>> {
 }
 
 // Both directions where the tag is right; opening alone, which has to refuse and leave the bytes, where it isn't.
-pub fn gcm_case(mut words: Words) -> anyhow::Result<bool> {
-    let piece = read_piece(&mut words)?;
+pub fn gcm_case(words: &mut Words) -> anyhow::Result<bool> {
+    let piece = read_piece(words)?;
     let key = Key::new(piece.key);
     let right = words.text()? == "ok";
     let mut out = vec![in words.heap; 0u8; piece.sealed.len()]?;

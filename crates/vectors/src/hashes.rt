@@ -3,18 +3,18 @@ use crate::words::Words;
 use hkdf::{derive, hmac};
 use sha512::hash;
 
-pub fn sha512_case(mut words: Words) -> anyhow::Result<bool> {
+pub fn sha512_case(words: &mut Words) -> anyhow::Result<bool> {
     let message = words.bytes()?;
     words.are(&hash(message))
 }
 
-pub fn hmac_case(mut words: Words) -> anyhow::Result<bool> {
+pub fn hmac_case(words: &mut Words) -> anyhow::Result<bool> {
     let key = words.bytes()?;
     let message = words.bytes()?;
     words.are(&hmac(key, message))
 }
 
-pub fn hkdf_case(mut words: Words) -> anyhow::Result<bool> {
+pub fn hkdf_case(words: &mut Words) -> anyhow::Result<bool> {
     let salt = words.bytes()?;
     let key = words.bytes()?;
     let info = words.bytes()?;

@@ -12,7 +12,7 @@ use std::fs;
 use words::{Word, Words};
 
 // Whether the case on this line comes out as expected.
-fn outcome<F: Fn(Words) -> anyhow::Result<bool>>(
+fn outcome<F: Fn(&mut Words) -> anyhow::Result<bool>>(
     heap: Global,
     line: &str,
     case: &F,
@@ -20,30 +20,22 @@ fn outcome<F: Fn(Words) -> anyhow::Result<bool>>(
     requires { F.IsAlwaysCallable case.now }
 {
     let words = Word::all(heap, line)?;
-    case(Words::of(heap, words.as_slice()))
+    case(&mut Words::of(heap, words.as_slice()))
 }
 
-fn outcomes<F: Fn(Words) -> anyhow::Result<bool>>(
-    heap: Global,
-    text: &str,
-    case: F,
-) -> anyhow::Result<Vec<bool>>
-    requires { F.IsAlwaysCallable case }
-{
-    text.lines()
-        .map(|line| outcome(heap, line, &case))
-        .try_collect(heap)
-}
-
-fn run<F: Fn(Words) -> anyhow::Result<bool>>(
+fn run<F: Fn(&mut Words) -> anyhow::Result<bool>>(
     rt: &HostRuntime,
     name: &str,
     case: F,
 ) -> anyhow::Result<()>
     requires { F.IsAlwaysCallable case }
 {
+    let heap = rt.alloc();
     let text = fs::read_to_string(rt, name)?;
-    let outcomes = outcomes(rt.alloc(), text.as_str(), case)?;
+    let outcomes: Vec<bool> = text
+        .lines()
+        .map(|line| outcome(heap, line, &case))
+        .try_collect(heap)?;
     let right = outcomes.iter().filter(|right| **right).count();
     println!(rt; "{name}: {right} of {}", outcomes.len())?;
     Ok(())

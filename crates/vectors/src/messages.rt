@@ -7,11 +7,10 @@ use header::Request;
 use header_read::ReadHeader;
 use opening::{OpenRefusal, Opened};
 
-pub fn header_case(mut words: Words) -> anyhow::Result<bool> {
+pub fn header_case(words: &mut Words) -> anyhow::Result<bool> {
     let message = words.bytes()?;
-    let expected = words.text()?;
-    match (strongbox::read_header(message), expected) {
-        (Some(read), "is") => header_is(read, &mut words),
+    match (strongbox::read_header(message), words.text()?) {
+        (Some(read), "is") => header_is(read, words),
         (None, "none") => Ok(true),
         _ => Ok(false),
     }
@@ -31,16 +30,15 @@ fn header_is<'w>(read: ReadHeader<'w>, words: &mut Words<'w>) -> anyhow::Result<
 }
 
 // Opened, or refused with the number and the frame that are expected; what is lent holds the text and zeros, or zeros.
-pub fn open_case(mut words: Words) -> anyhow::Result<bool> {
+pub fn open_case(words: &mut Words) -> anyhow::Result<bool> {
     let key = words.array::<32>()?;
     let lent = usize::try_from(words.number()?)?;
     let message = words.bytes()?;
-    let expected = words.text()?;
     let mut out = vec![in words.heap; 170u8; lent]?;
     let answer = strongbox::open(key, message, out.as_mut_slice());
-    match (answer, expected) {
-        (Ok(opened), "is") => opened_is(opened, out.as_slice(), &mut words),
-        (Err(refusal), "refused") => refused_is(refusal, out.as_slice(), &mut words),
+    match (answer, words.text()?) {
+        (Ok(opened), "is") => opened_is(opened, out.as_slice(), words),
+        (Err(refusal), "refused") => refused_is(refusal, out.as_slice(), words),
         _ => Ok(false),
     }
 }
@@ -62,11 +60,11 @@ fn refused_is(refusal: OpenRefusal, out: &[u8], words: &mut Words) -> anyhow::Re
 }
 
 // The length of a message, for a text of so many bytes, or the number of the refusal.
-pub fn length_case(mut words: Words) -> anyhow::Result<bool> {
-    let fixed = read_fixed(&mut words)?;
+pub fn length_case(words: &mut Words) -> anyhow::Result<bool> {
+    let fixed = read_fixed(words)?;
     ensure!(fixed.key.len() == 32, "bytes of another length");
     let text_len = words.number()?;
-    let lists = read_lists(&mut words)?;
+    let lists = read_lists(words)?;
     let told = strongbox::message_len(header_request(fixed, &lists), text_len);
     match (told, words.text()?) {
         (Ok(length), "is") => words.is(length),
@@ -76,17 +74,17 @@ pub fn length_case(mut words: Words) -> anyhow::Result<bool> {
 }
 
 // Sealed into as many bytes as are lent, or as the message has; a refusal leaves them as they were.
-pub fn seal_case(mut words: Words) -> anyhow::Result<bool> {
-    let fixed = read_fixed(&mut words)?;
+pub fn seal_case(words: &mut Words) -> anyhow::Result<bool> {
+    let fixed = read_fixed(words)?;
     let room = words.text()?;
     let text = words.bytes()?;
-    let lists = read_lists(&mut words)?;
+    let lists = read_lists(words)?;
     let request = Request {
         key: fixed.key,
         header: header_request(fixed, &lists),
         text,
     };
-    sealed_is(request, room, &mut words)
+    sealed_is(request, room, words)
 }
 
 fn sealed_is(request: Request, room: &str, words: &mut Words) -> anyhow::Result<bool> {

@@ -83,21 +83,13 @@ impl<'w> Words<'w> {
 
 // The bytes of hexadecimal digits, none for `-`; nothing for another word.
 fn unhex(heap: Global, word: &str) -> Result<Option<Vec<u8>>, AllocError> {
-    let mut bytes = Vec::new(heap);
     if word == "-" {
-        return Ok(Some(bytes));
+        return Ok(Some(Vec::new(heap)));
     }
-    let (pairs, half) = word.as_bytes().as_chunks::<2>();
-    if !half.is_empty() {
+    let (pairs, []) = word.as_bytes().as_chunks::<2>() else {
         return Ok(None);
-    }
-    for pair in pairs {
-        let Some(byte) = unhex_byte(*pair) else {
-            return Ok(None);
-        };
-        bytes.push(byte)?;
-    }
-    Ok(Some(bytes))
+    };
+    pairs.iter().map(|pair| unhex_byte(*pair)).collect(heap)
 }
 
 fn unhex_byte([high, low]: [u8; 2]) -> Option<u8> {
