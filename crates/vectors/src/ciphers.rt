@@ -1,15 +1,13 @@
 // AES-256 and GCM: one case a line.
-use crate::words::Words;
+use crate::words::{FromWords, Words};
 use aes256::{RoundKeys, encrypt_block, expand_key};
 use anyhow::bail;
 use gcm::Key;
 
 // Each block apart.
 pub fn aes_case(words: &mut Words) -> anyhow::Result<bool> {
-    let keys = expand_key(words.array::<32>()?);
-    let blocks = words.bytes()?;
-    let expected = words.bytes()?;
-    blocks_are(&keys, blocks, expected)
+    let (key, blocks, expected) = words.read::<(&[u8; 32], &[u8], &[u8])>()?;
+    blocks_are(&expand_key(key), blocks, expected)
 }
 
 fn blocks_are(keys: &RoundKeys, blocks: &[u8], expected: &[u8]) -> anyhow::Result<bool> {
@@ -34,27 +32,30 @@ struct Piece<'w> {
     tag: &'w [u8; 16],
 }
 
-fn read_piece<'w>(words: &mut Words<'w>) -> anyhow::Result<Piece<'w>> {
-    Ok(Piece {
-        key: words.array()?,
-        nonce: words.array()?,
-        aad: words.bytes()?,
-        sealed: words.bytes()?,
-        tag: words.array()?,
-    })
+impl<'w> FromWords<'w> for Piece<'w> {
+    fn from_words(words: &mut Words<'w>) -> anyhow::Result<Piece<'w>> {
+        let (key, nonce, aad) = words.read()?;
+        let (sealed, tag) = words.read()?;
+        Ok(Piece {
+            key,
+            nonce,
+            aad,
+            sealed,
+            tag,
+        })
+    }
 }
 
 // Both directions where the tag is right; opening alone, which has to refuse and leave the bytes, where it isn't.
 pub fn gcm_case(words: &mut Words) -> anyhow::Result<bool> {
-    let piece = read_piece(words)?;
+    let (piece, expected) = words.read::<(Piece, &str)>()?;
     let key = Key::new(piece.key);
-    let right = words.text()? == "ok";
     let mut out = vec![in words.heap; 0u8; piece.sealed.len()]?;
     let opened = opens(&key, piece, out.as_mut_slice());
-    if !right {
+    if expected != "ok" {
         return Ok(!opened && all_zero(out.as_slice()));
     }
-    let text = words.bytes()?;
+    let text = words.read::<&[u8]>()?;
     let same = out.as_slice() == text;
     Ok(opened && same && seals(&key, piece, text, out.as_mut_slice()))
 }

@@ -4,23 +4,19 @@ use hkdf::{derive, hmac};
 use sha512::hash;
 
 pub fn sha512_case(words: &mut Words) -> anyhow::Result<bool> {
-    let message = words.bytes()?;
-    words.are(&hash(message))
+    let (message, expected) = words.read::<(&[u8], &[u8])>()?;
+    Ok(hash(message).as_slice() == expected)
 }
 
 pub fn hmac_case(words: &mut Words) -> anyhow::Result<bool> {
-    let key = words.bytes()?;
-    let message = words.bytes()?;
-    words.are(&hmac(key, message))
+    let (key, message, expected) = words.read::<(&[u8], &[u8], &[u8])>()?;
+    Ok(hmac(key, message).as_slice() == expected)
 }
 
 pub fn hkdf_case(words: &mut Words) -> anyhow::Result<bool> {
-    let salt = words.bytes()?;
-    let key = words.bytes()?;
-    let info = words.bytes()?;
-    let len = usize::try_from(words.number()?)?;
-    let mut out = vec![in words.heap; 0u8; len]?;
+    let (salt, key, info) = words.read::<(&[u8], &[u8], &[u8])>()?;
+    let mut out = vec![in words.heap; 0u8; words.read()?]?;
     let derived = derive(salt, key, info, out.as_mut_slice());
-    let same = words.are(out.as_slice())?;
-    Ok(derived.is_ok() && same)
+    let expected = words.read::<&[u8]>()?;
+    Ok(derived.is_ok() && out.as_slice() == expected)
 }

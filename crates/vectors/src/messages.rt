@@ -1,6 +1,6 @@
 // Whole messages and their headers, made by another implementation: one case a line.
 use crate::ciphers::all_zero;
-use crate::requests::{context_is, data_keys_are, header_request, read_fixed, read_lists};
+use crate::requests::{Fixed, Lists, context_is, data_keys_are, header_request};
 use crate::words::Words;
 use anyhow::ensure;
 use header::Request;
@@ -8,8 +8,8 @@ use header_read::ReadHeader;
 use opening::{OpenRefusal, Opened};
 
 pub fn header_case(words: &mut Words) -> anyhow::Result<bool> {
-    let message = words.bytes()?;
-    match (strongbox::read_header(message), words.text()?) {
+    let (message, expected) = words.read::<(&[u8], &str)>()?;
+    match (strongbox::read_header(message), expected) {
         (Some(read), "is") => header_is(read, words),
         (None, "none") => Ok(true),
         _ => Ok(false),
@@ -19,24 +19,24 @@ pub fn header_case(words: &mut Words) -> anyhow::Result<bool> {
 // The parts of a header that was read, with its tag and how much comes after, as the words say them.
 fn header_is<'w>(read: ReadHeader<'w>, words: &mut Words<'w>) -> anyhow::Result<bool> {
     let header = read.header;
-    let id = words.are(header.id)?;
-    let frame_length = words.is(u64::from(header.frame_length))?;
-    let commitment = words.are(header.commitment)?;
-    let tag = words.are(read.tag)?;
-    let rest = words.is(read.rest.len() as u64)?;
+    let (id, frame_length, commitment) = words.read::<(&[u8], u64, &[u8])>()?;
+    let (tag, rest) = words.read::<(&[u8], u64)>()?;
     let context = context_is(header.context, words)?;
     let data_keys = data_keys_are(header.encrypted_data_keys, words)?;
-    Ok(id && frame_length && commitment && tag && rest && context && data_keys)
+    let fixed = header.id == id
+        && u64::from(header.frame_length) == frame_length
+        && header.commitment == commitment
+        && read.tag == tag
+        && read.rest.len() as u64 == rest;
+    Ok(fixed && context && data_keys)
 }
 
 // Opened, or refused with the number and the frame that are expected; what is lent holds the text and zeros, or zeros.
 pub fn open_case(words: &mut Words) -> anyhow::Result<bool> {
-    let key = words.array::<32>()?;
-    let lent = usize::try_from(words.number()?)?;
-    let message = words.bytes()?;
+    let (key, lent, message) = words.read::<(&[u8; 32], usize, &[u8])>()?;
     let mut out = vec![in words.heap; 170u8; lent]?;
     let answer = strongbox::open(key, message, out.as_mut_slice());
-    match (answer, words.text()?) {
+    match (answer, words.read()?) {
         (Ok(opened), "is") => opened_is(opened, out.as_slice(), words),
         (Err(refusal), "refused") => refused_is(refusal, out.as_slice(), words),
         _ => Ok(false),
@@ -44,7 +44,7 @@ pub fn open_case(words: &mut Words) -> anyhow::Result<bool> {
 }
 
 fn opened_is<'w>(opened: Opened<'w>, out: &[u8], words: &mut Words<'w>) -> anyhow::Result<bool> {
-    let text = words.bytes()?;
+    let text = words.read::<&[u8]>()?;
     let context = context_is(opened.context, words)?;
     Ok(context && opened.len == text.len() && text_and_zeros(text, out))
 }
@@ -54,31 +54,28 @@ fn text_and_zeros(text: &[u8], out: &[u8]) -> bool {
 }
 
 fn refused_is(refusal: OpenRefusal, out: &[u8], words: &mut Words) -> anyhow::Result<bool> {
-    let number = words.is(u64::from(refusal.number()))?;
-    let frame = words.is(u64::from(refusal.frame()))?;
-    Ok(number && frame && all_zero(out))
+    let expected = words.read::<(u64, u64)>()?;
+    let said = (u64::from(refusal.number()), u64::from(refusal.frame()));
+    Ok(said == expected && all_zero(out))
 }
 
 // The length of a message, for a text of so many bytes, or the number of the refusal.
 pub fn length_case(words: &mut Words) -> anyhow::Result<bool> {
-    let fixed = read_fixed(words)?;
+    let fixed = words.read::<Fixed>()?;
     ensure!(fixed.key.len() == 32, "bytes of another length");
-    let text_len = words.number()?;
-    let lists = read_lists(words)?;
+    let (text_len, lists) = words.read::<(u64, Lists)>()?;
     let told = strongbox::message_len(header_request(fixed, &lists), text_len);
-    match (told, words.text()?) {
-        (Ok(length), "is") => words.is(length),
-        (Err(refusal), "refused") => words.is(u64::from(refusal.number())),
+    match (told, words.read::<(&str, u64)>()?) {
+        (Ok(length), ("is", expected)) => Ok(length == expected),
+        (Err(refusal), ("refused", expected)) => Ok(u64::from(refusal.number()) == expected),
         _ => Ok(false),
     }
 }
 
 // Sealed into as many bytes as are lent, or as the message has; a refusal leaves them as they were.
 pub fn seal_case(words: &mut Words) -> anyhow::Result<bool> {
-    let fixed = read_fixed(words)?;
-    let room = words.text()?;
-    let text = words.bytes()?;
-    let lists = read_lists(words)?;
+    let (fixed, room, text) = words.read::<(Fixed, &str, &[u8])>()?;
+    let lists = words.read::<Lists>()?;
     let request = Request {
         key: fixed.key,
         header: header_request(fixed, &lists),
@@ -94,10 +91,11 @@ fn sealed_is(request: Request, room: &str, words: &mut Words) -> anyhow::Result<
     };
     let mut out = vec![in words.heap; 0u8; usize::try_from(len)?]?;
     let answer = strongbox::seal(request, out.as_mut_slice());
-    match (answer, words.text()?) {
-        (Ok(()), "is") => words.are(out.as_slice()),
+    match (answer, words.read()?) {
+        (Ok(()), "is") => Ok(out.as_slice() == words.read::<&[u8]>()?),
         (Err(refusal), "refused") => {
-            Ok(words.is(u64::from(refusal.number()))? && all_zero(out.as_slice()))
+            let expected = words.read::<u64>()?;
+            Ok(u64::from(refusal.number()) == expected && all_zero(out.as_slice()))
         }
         _ => Ok(false),
     }

@@ -1,35 +1,24 @@
 // What requests and headers are made of, as the words of a line say it.
-use crate::words::Words;
+use crate::words::{FromWords, Words};
 use header::{EncryptedDataKey, HeaderRequest, Pair};
 use header_read::{Context, EncryptedDataKeys};
 
-fn read_pair<'w>(words: &mut Words<'w>) -> anyhow::Result<Pair<'w, 'w>> {
-    Ok(Pair {
-        name: words.bytes()?,
-        value: words.bytes()?,
-    })
-}
-
-fn read_data_key<'w>(words: &mut Words<'w>) -> anyhow::Result<EncryptedDataKey<'w, 'w, 'w>> {
-    Ok(EncryptedDataKey {
-        provider_id: words.bytes()?,
-        provider_info: words.bytes()?,
-        ciphertext: words.bytes()?,
-    })
-}
-
-// As many as the next word says, each read in the same way.
-fn read_list<'w, T: Drop, F: Fn(&mut Words<'w>) -> anyhow::Result<T>>(
-    words: &mut Words<'w>,
-    read: F,
-) -> anyhow::Result<Vec<T>>
-    requires { F.IsAlwaysCallable read }
-{
-    let mut list = Vec::new(words.heap);
-    for _ in 0..words.number()? {
-        list.push(read(words)?)?;
+impl<'w> FromWords<'w> for Pair<'w, 'w> {
+    fn from_words(words: &mut Words<'w>) -> anyhow::Result<Pair<'w, 'w>> {
+        let (name, value) = words.read()?;
+        Ok(Pair { name, value })
     }
-    Ok(list)
+}
+
+impl<'w> FromWords<'w> for EncryptedDataKey<'w, 'w, 'w> {
+    fn from_words(words: &mut Words<'w>) -> anyhow::Result<EncryptedDataKey<'w, 'w, 'w>> {
+        let (provider_id, provider_info, ciphertext) = words.read()?;
+        Ok(EncryptedDataKey {
+            provider_id,
+            provider_info,
+            ciphertext,
+        })
+    }
 }
 
 #[derive(Drop)]
@@ -38,11 +27,11 @@ pub struct Lists<'w> {
     data_keys: Vec<EncryptedDataKey<'w, 'w, 'w>>,
 }
 
-pub fn read_lists<'w>(words: &mut Words<'w>) -> anyhow::Result<Lists<'w>> {
-    Ok(Lists {
-        pairs: read_list(words, read_pair)?,
-        data_keys: read_list(words, read_data_key)?,
-    })
+impl<'w> FromWords<'w> for Lists<'w> {
+    fn from_words(words: &mut Words<'w>) -> anyhow::Result<Lists<'w>> {
+        let (pairs, data_keys) = words.read()?;
+        Ok(Lists { pairs, data_keys })
+    }
 }
 
 fn parts_of_pair<'w>(pair: Pair<'w, 'w>) -> (&'w [u8], &'w [u8]) {
@@ -55,7 +44,7 @@ fn parts_of_data_key<'w>(key: EncryptedDataKey<'w, 'w, 'w>) -> (&'w [u8], &'w [u
 
 // The pairs, in order and no more, that the words say.
 pub fn context_is<'w>(context: Context<'w>, words: &mut Words<'w>) -> anyhow::Result<bool> {
-    let expected = read_list(words, read_pair)?;
+    let expected = words.read::<Vec<Pair>>()?;
     let expected = expected.into_iter().map(parts_of_pair);
     Ok(context.pairs().map(parts_of_pair).eq(expected))
 }
@@ -64,7 +53,7 @@ pub fn data_keys_are<'w>(
     data_keys: EncryptedDataKeys<'w>,
     words: &mut Words<'w>,
 ) -> anyhow::Result<bool> {
-    let expected = read_list(words, read_data_key)?;
+    let expected = words.read::<Vec<EncryptedDataKey>>()?;
     let expected = expected.into_iter().map(parts_of_data_key);
     Ok(data_keys.data_keys().map(parts_of_data_key).eq(expected))
 }
@@ -77,12 +66,15 @@ pub struct Fixed<'w> {
     frame_length: u32,
 }
 
-pub fn read_fixed<'w>(words: &mut Words<'w>) -> anyhow::Result<Fixed<'w>> {
-    Ok(Fixed {
-        key: words.bytes()?,
-        id: words.bytes()?,
-        frame_length: u32::try_from(words.number()?)?,
-    })
+impl<'w> FromWords<'w> for Fixed<'w> {
+    fn from_words(words: &mut Words<'w>) -> anyhow::Result<Fixed<'w>> {
+        let (key, id, frame_length) = words.read()?;
+        Ok(Fixed {
+            key,
+            id,
+            frame_length,
+        })
+    }
 }
 
 pub fn header_request<'l, 'w>(

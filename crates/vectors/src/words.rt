@@ -1,4 +1,4 @@
-// The words of a line, one after the other.
+// The words of a line, one after the other, and what they say.
 ghost use Rattle.std.specs.Prelude.{◌<◌, IfSome};
 
 use anyhow::Context;
@@ -41,20 +41,47 @@ impl<'w> Words<'w> {
         }
     }
 
-    fn word(&mut self) -> anyhow::Result<&'w Word<'w>> {
+    fn next(&mut self) -> anyhow::Result<&'w Word<'w>> {
         self.left.next().context("a word is missing")
     }
 
-    pub fn text(&mut self) -> anyhow::Result<&'w str> {
-        Ok(self.word()?.text)
+    pub fn read<T: FromWords<'w>>(&mut self) -> anyhow::Result<T> {
+        T::from_words(self)
     }
+}
 
-    pub fn number(&mut self) -> anyhow::Result<u64> {
-        Ok(self.text()?.parse::<u64>()?)
+// What the next word says, or several words one after the other.
+pub trait FromWords<'w>: Sized + Drop {
+    fn from_words(words: &mut Words<'w>) -> anyhow::Result<Self>;
+}
+
+impl<'w> FromWords<'w> for &'w str {
+    fn from_words(words: &mut Words<'w>) -> anyhow::Result<&'w str> {
+        Ok(words.next()?.text)
     }
+}
 
-    pub fn bytes(&mut self) -> anyhow::Result<&'w [u8]> {
-        let word = self.word()?;
+impl<'w> FromWords<'w> for u64 {
+    fn from_words(words: &mut Words<'w>) -> anyhow::Result<u64> {
+        Ok(words.next()?.text.parse::<u64>()?)
+    }
+}
+
+impl<'w> FromWords<'w> for u32 {
+    fn from_words(words: &mut Words<'w>) -> anyhow::Result<u32> {
+        Ok(u32::try_from(words.read::<u64>()?)?)
+    }
+}
+
+impl<'w> FromWords<'w> for usize {
+    fn from_words(words: &mut Words<'w>) -> anyhow::Result<usize> {
+        Ok(usize::try_from(words.read::<u64>()?)?)
+    }
+}
+
+impl<'w> FromWords<'w> for &'w [u8] {
+    fn from_words(words: &mut Words<'w>) -> anyhow::Result<&'w [u8]> {
+        let word = words.next()?;
         let why = if word.text.len() % 2 == 0 {
             "not a hexadecimal digit"
         } else {
@@ -62,22 +89,37 @@ impl<'w> Words<'w> {
         };
         word.bytes.as_deref().context(why)
     }
+}
 
-    // Bytes of a length that is known: keys, nonces, tags.
-    pub fn array<const N: usize>(&mut self) -> anyhow::Result<&'w [u8; N]> {
-        <&[u8; N]>::try_from(self.bytes()?)
+// Bytes of a length that is known: keys, nonces, tags.
+impl<'w, const N: usize> FromWords<'w> for &'w [u8; N] {
+    fn from_words(words: &mut Words<'w>) -> anyhow::Result<&'w [u8; N]> {
+        <&[u8; N]>::try_from(words.read::<&[u8]>()?)
             .ok()
             .context("bytes of another length")
     }
+}
 
-    // Whether the next word says these bytes.
-    pub fn are(&mut self, bytes: &[u8]) -> anyhow::Result<bool> {
-        Ok(self.bytes()? == bytes)
+impl<'w, A: FromWords<'w>, B: FromWords<'w>> FromWords<'w> for (A, B) {
+    fn from_words(words: &mut Words<'w>) -> anyhow::Result<(A, B)> {
+        Ok((words.read()?, words.read()?))
     }
+}
 
-    // Whether the next word is this number.
-    pub fn is(&mut self, number: u64) -> anyhow::Result<bool> {
-        Ok(self.number()? == number)
+impl<'w, A: FromWords<'w>, B: FromWords<'w>, C: FromWords<'w>> FromWords<'w> for (A, B, C) {
+    fn from_words(words: &mut Words<'w>) -> anyhow::Result<(A, B, C)> {
+        Ok((words.read()?, words.read()?, words.read()?))
+    }
+}
+
+// As many as the next word says.
+impl<'w, T: FromWords<'w>> FromWords<'w> for Vec<T> {
+    fn from_words(words: &mut Words<'w>) -> anyhow::Result<Vec<T>> {
+        let mut list = Vec::new(words.heap);
+        for _ in 0..words.read::<u64>()? {
+            list.push(words.read()?)?;
+        }
+        Ok(list)
     }
 }
 
