@@ -1,4 +1,6 @@
 // What requests and headers are made of, as the words of a line say it.
+ghost use Rattle.std.specs.Iterator.{IsFinite};
+
 use crate::words::{FromWords, Words};
 use header::{EncryptedDataKey, HeaderRequest, Pair};
 use header_read::{Context, EncryptedDataKeys};
@@ -34,28 +36,29 @@ impl<'w> FromWords<'w> for Lists<'w> {
     }
 }
 
-fn parts_of_pair<'w>(pair: Pair<'w, 'w>) -> (&'w [u8], &'w [u8]) {
-    (pair.name, pair.value)
+// Whether these come in order and no more, as the words say them.
+fn are<'w, T: FromWords<'w> + PartialEq, I: Iterator<Item = T> + Drop>(
+    found: I,
+    words: &mut Words<'w>,
+) -> anyhow::Result<bool>
+    requires can { I.can_next found }
+    requires ends { IsFinite (I.remaining found) }
+{
+    Ok(found.eq(words.read::<Vec<T>>()?))
 }
 
-fn parts_of_data_key<'w>(key: EncryptedDataKey<'w, 'w, 'w>) -> (&'w [u8], &'w [u8], &'w [u8]) {
-    (key.provider_id, key.provider_info, key.ciphertext)
-}
-
-// The pairs, in order and no more, that the words say.
 pub fn context_is<'w>(context: Context<'w>, words: &mut Words<'w>) -> anyhow::Result<bool> {
-    let expected = words.read::<Vec<Pair>>()?;
-    let expected = expected.into_iter().map(parts_of_pair);
-    Ok(context.pairs().map(parts_of_pair).eq(expected))
+    are(context.pairs().map(|pair| (pair.name, pair.value)), words)
 }
 
 pub fn data_keys_are<'w>(
     data_keys: EncryptedDataKeys<'w>,
     words: &mut Words<'w>,
 ) -> anyhow::Result<bool> {
-    let expected = words.read::<Vec<EncryptedDataKey>>()?;
-    let expected = expected.into_iter().map(parts_of_data_key);
-    Ok(data_keys.data_keys().map(parts_of_data_key).eq(expected))
+    let found = data_keys
+        .data_keys()
+        .map(|key| (key.provider_id, key.provider_info, key.ciphertext));
+    are(found, words)
 }
 
 // What a request begins with.
