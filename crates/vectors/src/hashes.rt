@@ -14,8 +14,8 @@ pub fn hmac_case(words: &mut Words) -> anyhow::Result<bool> {
 }
 
 pub fn hkdf_case(words: &mut Words) -> anyhow::Result<bool> {
-    let (salt, key, info) = words.read::<(&[u8], &[u8], &[u8])>()?;
-    let mut out = vec![in words.heap; 0u8; words.read()?]?;
+    let (salt, key, info, len) = words.read::<(&[u8], &[u8], &[u8], usize)>()?;
+    let mut out = vec![in words.heap; 0u8; len]?;
     let derived = derive(salt, key, info, out.as_mut_slice());
     let expected = words.read::<&[u8]>()?;
     Ok(derived.is_ok() && out.as_slice() == expected)

@@ -1,6 +1,8 @@
 // Whole messages and their headers, made by another implementation: one case a line.
 use crate::ciphers::all_zero;
-use crate::requests::{Fixed, Lists, context_is, data_keys_are, header_request};
+use crate::requests::{
+    DataKeyWords, Fixed, Lists, PairWords, context_is, data_keys_are, header_request,
+};
 use crate::words::Words;
 use anyhow::ensure;
 use header::Request;
@@ -19,16 +21,17 @@ pub fn header_case(words: &mut Words) -> anyhow::Result<bool> {
 // The parts of a header that was read, with its tag and how much comes after, as the words say them.
 fn header_is<'w>(read: ReadHeader<'w>, words: &mut Words<'w>) -> anyhow::Result<bool> {
     let header = read.header;
-    let (id, frame_length, commitment) = words.read::<(&[u8], u64, &[u8])>()?;
-    let (tag, rest) = words.read::<(&[u8], u64)>()?;
-    let context = context_is(header.context, words)?;
-    let data_keys = data_keys_are(header.encrypted_data_keys, words)?;
-    let fixed = header.id == id
-        && u64::from(header.frame_length) == frame_length
-        && header.commitment == commitment
-        && read.tag == tag
-        && read.rest.len() as u64 == rest;
-    Ok(fixed && context && data_keys)
+    let (id, frame_length, commitment, tag) = words.read::<(&[u8], u64, &[u8], &[u8])>()?;
+    let (rest, context, data_keys) = words.read::<(u64, Vec<PairWords>, Vec<DataKeyWords>)>()?;
+    Ok(
+        header.id == id
+            && u64::from(header.frame_length) == frame_length
+            && header.commitment == commitment
+            && read.tag == tag
+            && read.rest.len() as u64 == rest
+            && context_is(header.context, context)
+            && data_keys_are(header.encrypted_data_keys, data_keys),
+    )
 }
 
 // Opened, or refused with the number and the frame that are expected; what is lent holds the text and zeros, or zeros.
@@ -44,9 +47,8 @@ pub fn open_case(words: &mut Words) -> anyhow::Result<bool> {
 }
 
 fn opened_is<'w>(opened: Opened<'w>, out: &[u8], words: &mut Words<'w>) -> anyhow::Result<bool> {
-    let text = words.read::<&[u8]>()?;
-    let context = context_is(opened.context, words)?;
-    Ok(context && opened.len == text.len() && text_and_zeros(text, out))
+    let (text, context) = words.read::<(&[u8], Vec<PairWords>)>()?;
+    Ok(opened.len == text.len() && text_and_zeros(text, out) && context_is(opened.context, context))
 }
 
 fn text_and_zeros(text: &[u8], out: &[u8]) -> bool {
@@ -74,22 +76,26 @@ pub fn length_case(words: &mut Words) -> anyhow::Result<bool> {
 
 // Sealed into as many bytes as are lent, or as the message has; a refusal leaves them as they were.
 pub fn seal_case(words: &mut Words) -> anyhow::Result<bool> {
-    let (fixed, room, text) = words.read::<(Fixed, &str, &[u8])>()?;
-    let lists = words.read::<Lists>()?;
+    let (fixed, room, text, lists) = words.read::<(Fixed, &str, &[u8], Lists)>()?;
     let request = Request {
         key: fixed.key,
         header: header_request(fixed, &lists),
         text,
     };
-    sealed_is(request, room, words)
+    sealed_is(request, room_for(request, room)?, words)
 }
 
-fn sealed_is(request: Request, room: &str, words: &mut Words) -> anyhow::Result<bool> {
+// As many bytes as the word says, or for `?` as the message has.
+fn room_for(request: Request, room: &str) -> anyhow::Result<usize> {
     let len = match room {
         "?" => strongbox::sealed_len(request).unwrap_or(0),
         given => given.parse::<u64>()?,
     };
-    let mut out = vec![in words.heap; 0u8; usize::try_from(len)?]?;
+    Ok(usize::try_from(len)?)
+}
+
+fn sealed_is(request: Request, room: usize, words: &mut Words) -> anyhow::Result<bool> {
+    let mut out = vec![in words.heap; 0u8; room]?;
     let answer = strongbox::seal(request, out.as_mut_slice());
     match (answer, words.read()?) {
         (Ok(()), "is") => Ok(out.as_slice() == words.read::<&[u8]>()?),

@@ -1,6 +1,4 @@
 // What requests and headers are made of, as the words of a line say it.
-ghost use Rattle.std.specs.Iterator.{IsFinite};
-
 use crate::words::{FromWords, Words};
 use header::{EncryptedDataKey, HeaderRequest, Pair};
 use header_read::{Context, EncryptedDataKeys};
@@ -36,29 +34,26 @@ impl<'w> FromWords<'w> for Lists<'w> {
     }
 }
 
-// Whether these come in order and no more, as the words say them.
-fn are<'w, T: FromWords<'w> + PartialEq, I: Iterator<Item = T> + Drop>(
-    found: I,
-    words: &mut Words<'w>,
-) -> anyhow::Result<bool>
-    requires can { I.can_next found }
-    requires ends { IsFinite (I.remaining found) }
-{
-    Ok(found.eq(words.read::<Vec<T>>()?))
-}
+pub type PairWords<'w> = (&'w [u8], &'w [u8]);
 
-pub fn context_is<'w>(context: Context<'w>, words: &mut Words<'w>) -> anyhow::Result<bool> {
-    are(context.pairs().map(|pair| (pair.name, pair.value)), words)
+pub type DataKeyWords<'w> = (&'w [u8], &'w [u8], &'w [u8]);
+
+// Whether these are the pairs, in order and no more.
+pub fn context_is<'w>(context: Context<'w>, expected: Vec<PairWords<'w>>) -> bool {
+    context
+        .pairs()
+        .map(|pair| (pair.name, pair.value))
+        .eq(expected)
 }
 
 pub fn data_keys_are<'w>(
     data_keys: EncryptedDataKeys<'w>,
-    words: &mut Words<'w>,
-) -> anyhow::Result<bool> {
-    let found = data_keys
+    expected: Vec<DataKeyWords<'w>>,
+) -> bool {
+    data_keys
         .data_keys()
-        .map(|key| (key.provider_id, key.provider_info, key.ciphertext));
-    are(found, words)
+        .map(|key| (key.provider_id, key.provider_info, key.ciphertext))
+        .eq(expected)
 }
 
 // What a request begins with.

@@ -112,6 +112,18 @@ impl<'w, A: FromWords<'w>, B: FromWords<'w>, C: FromWords<'w>> FromWords<'w> for
     }
 }
 
+impl<'w, A, B, C, D> FromWords<'w> for (A, B, C, D)
+where
+    A: FromWords<'w>,
+    B: FromWords<'w>,
+    C: FromWords<'w>,
+    D: FromWords<'w>,
+{
+    fn from_words(words: &mut Words<'w>) -> anyhow::Result<(A, B, C, D)> {
+        Ok((words.read()?, words.read()?, words.read()?, words.read()?))
+    }
+}
+
 // As many as the next word says.
 impl<'w, T: FromWords<'w>> FromWords<'w> for Vec<T> {
     fn from_words(words: &mut Words<'w>) -> anyhow::Result<Vec<T>> {
