@@ -16,10 +16,8 @@ fn blocks_are(keys: &RoundKeys, blocks: &[u8], expected: &[u8]) -> anyhow::Resul
     }
     let (blocks, _) = blocks.as_chunks::<16>();
     let (expected, _) = expected.as_chunks::<16>();
-    Ok(
-        blocks.iter().zip(expected).all(|(block, encrypted)| encrypt_block(keys, *block)
-            == *encrypted),
-    )
+    let mut pairs = blocks.iter().zip(expected);
+    Ok(pairs.all(|(block, expected)| encrypt_block(keys, *block) == *expected))
 }
 
 // What one call took and gave.
