@@ -66,12 +66,11 @@ pub fn length_case(words: &mut Words) -> anyhow::Result<bool> {
     let fixed = words.read::<Fixed>()?;
     ensure!(fixed.key.len() == 32, "bytes of another length");
     let (text_len, lists) = words.read::<(u64, Lists)>()?;
-    let told = strongbox::message_len(header_request(fixed, &lists), text_len);
-    match (told, words.read::<(&str, u64)>()?) {
-        (Ok(length), ("is", expected)) => Ok(length == expected),
-        (Err(refusal), ("refused", expected)) => Ok(u64::from(refusal.number()) == expected),
-        _ => Ok(false),
-    }
+    let told = match strongbox::message_len(header_request(fixed, &lists), text_len) {
+        Ok(length) => ("is", length),
+        Err(refusal) => ("refused", u64::from(refusal.number())),
+    };
+    Ok(words.read::<(&str, u64)>()? == told)
 }
 
 // Sealed into as many bytes as are lent, or as the message has; a refusal leaves them as they were.
@@ -96,13 +95,11 @@ fn room_for(request: Request, room: &str) -> anyhow::Result<usize> {
 
 fn sealed_is(request: Request, room: usize, words: &mut Words) -> anyhow::Result<bool> {
     let mut out = vec![in words.heap; 0u8; room]?;
-    let answer = strongbox::seal(request, out.as_mut_slice());
-    match (answer, words.read()?) {
-        (Ok(()), "is") => Ok(out.as_slice() == words.read::<&[u8]>()?),
-        (Err(refusal), "refused") => {
-            let expected = words.read::<u64>()?;
-            Ok(u64::from(refusal.number()) == expected && all_zero(out.as_slice()))
+    match strongbox::seal(request, out.as_mut_slice()) {
+        Ok(()) => Ok(words.read::<(&str, &[u8])>()? == ("is", out.as_slice())),
+        Err(refusal) => {
+            let told = ("refused", u64::from(refusal.number()));
+            Ok(words.read::<(&str, u64)>()? == told && all_zero(out.as_slice()))
         }
-        _ => Ok(false),
     }
 }
