@@ -8,8 +8,8 @@ loop-i-init c = refl
 
 pub loop-i-preserved : goal.loop-i-preserved
 loop-i-preserved c =
-    product_turn c.loop-i.i (value c.args.x) (value c.loop-i.v) (value c.loop-i.sum) (value c.times_x-v.result) (value c.add_if-sum.result)
-    c.bit_at-bit.result _ c.loop-i-test.true c.bit_at-bit.ensures c.add_if-sum.ensures c.times_x-v.ensures c.loop-i.invariant
+    product_turn c.loop-i.i (value c.args.x) (value c.loop-i.v) (value c.loop-i.sum) (value c.times_x-v.result) (value c.add_masked-sum.result)
+    c.bit.result _ c.loop-i-test.true c.bit.ensures c.add_masked-sum.ensures c.times_x-v.ensures c.loop-i.invariant
 
 pub returns : goal.returns
 returns c =

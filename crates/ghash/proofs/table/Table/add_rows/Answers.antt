@@ -11,8 +11,8 @@ loop-j-init c = ap (λ k. product_steps 32 c.args.word (times_power k (hash_key_
 
 pub loop-j-preserved : goal.loop-j-preserved
 loop-j-preserved c =
-    run_turn c.loop-j.j c.args.word c.args.from (hash_key_of c.args.self.now) (quad_value c.loop-j.s) (quad_value c.row-row.result)
-    (quad_value c.add_masked-s.result) _ c.loop-j-test.true c.row-row.ensures c.add_masked-s.ensures c.loop-j.invariant
+    run_turn c.loop-j.j c.args.word c.args.from (hash_key_of c.args.self.now) (quad_value c.loop-j.s) (quad_value c.row.result)
+    (quad_value c.add_masked-s.result) _ c.loop-j-test.true c.row.ensures c.add_masked-s.ensures c.loop-j.invariant
 
 pub returns : goal.returns
 returns c =
