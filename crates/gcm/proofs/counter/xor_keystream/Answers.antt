@@ -15,8 +15,8 @@ loop-i-preserved c =
     let ks : List ℕ = round_keys (key_of c.args.keys.now) in
     let src : List ℕ = c.args.src.now in
     let i : ℕ = c.loop-i.i in (
-      ctr_turn ks c.args.nonce.now src c.loop-i.dst c.encrypt_block-mask.result c.xor_at.new.dst i ((length src + 15) / 16) c.min-n.result _
-          (omega arith) refl c.loop-i.invariant.1 (omega arith) c.min-n.ensures (c.encrypt_block-mask.ensures.value ∙ ap (λ b. aes ks b) c.counter_block.ensures) c.xor_at.ensures c.loop-i.invariant.0,
+      ctr_turn ks c.args.nonce.now src c.loop-i.dst c.encrypt_block-mask.result c.xor_into.new.dst i ((length src + 15) / 16) _ _
+          (omega arith) refl c.loop-i.invariant.1 (omega arith) (omega arith) (c.encrypt_block-mask.ensures.value ∙ ap (λ b. aes ks b) c.counter_block.ensures) c.xor_into.ensures c.loop-i.invariant.0,
       omega arith,
     )
 
