@@ -8,8 +8,8 @@ use crate::element::Element;
 
 mod times;
 
-// Row `k` is `h` times x^k, in one word of each of the four tables. In one array of rows the product takes 3.5 times as
-// long, since the compiler adds four rows at once only where the words of one place lie side by side.
+// Row `k` is `h` times x^k, in one word of each of the four tables. They are four arrays, so that four rows are added at
+// once; with the rows in one array a product takes twice as long, or more.
 #[derive(Drop)]
 pub struct Table {
     h: Element,
