@@ -17,18 +17,6 @@ pub fn hash_block(table: &Table, state: Element, block: Element) -> Element
     table.times(state + block)
 }
 
-// The whole blocks of `bytes`; what comes after them isn't hashed.
-fn hash_whole(table: &Table, state: Element, bytes: &[u8]) -> Element
-    ensures { value result ≡ ghash (length bytes.now / 16) (hash_key_of table.now) (value state) bytes.now }
-{
-    let (blocks, _) = bytes.as_chunks::<16>();
-    let mut s = state;
-    for block in blocks {
-        s = hash_block(table, s, Element::from_bytes(block));
-    }
-    s
-}
-
 // At most sixteen bytes, and zeros up to sixteen.
 fn filled(bytes: &[u8]) -> [u8; 16]
     requires { length bytes.now ≤ 16 }
@@ -43,8 +31,11 @@ fn filled(bytes: &[u8]) -> [u8; 16]
 pub fn hash_padded(table: &Table, state: Element, bytes: &[u8]) -> Element
     ensures value { value result ≡ ghash (length (zero_padded bytes.now) / 16) (hash_key_of table.now) (value state) (zero_padded bytes.now) }
 {
-    let s = hash_whole(table, state, bytes);
-    let (_, rest) = bytes.as_chunks::<16>();
+    let (blocks, rest) = bytes.as_chunks::<16>();
+    let mut s = state;
+    for block in blocks {
+        s = hash_block(table, s, Element::from_bytes(block));
+    }
     if rest.is_empty() {
         return s;
     }

@@ -1,14 +1,8 @@
 use Rattle.std.proofs.Common.{ℕ, ◌+◌, ◌/◌, List, length, refl, ap, ◌∙◌, arith}
-use native.Mathlib.Nat.{sub-zero}
 use Rattle.aes256.specs.Aes.{round_keys, aes}
 use Rattle.aes256.specs.RoundKeys.{key_of}
-use Rattle.gcm.specs.Gcm.{ctr_blocks}
 use Rattle.gcm.proofs.Streams.{ctr_turn, ctr_end}
 use Rattle.gcm.proofs.counter.xor_keystream.Goals as goal
-
-pub loop-i-init : goal.loop-i-init
-loop-i-init c =
-    (ap (λ k. ctr_blocks k 2 (round_keys (key_of c.args.keys.now)) c.args.nonce.now c.args.src.now) (sub-zero ((length c.args.src.now + 15) / 16)), c.requires)
 
 pub loop-i-preserved : goal.loop-i-preserved
 loop-i-preserved c =

@@ -1,10 +1,6 @@
-use Rattle.std.proofs.Common.{refl}
 use Rattle.ghash.specs.Element.{value}
 use Rattle.ghash.proofs.Steps.{product_turn, product_end}
 use Rattle.ghash.proofs.field.product.Goals as goal
-
-pub loop-i-init : goal.loop-i-init
-loop-i-init c = refl
 
 pub loop-i-preserved : goal.loop-i-preserved
 loop-i-preserved c =

@@ -1,13 +1,9 @@
-use Rattle.std.proofs.Common.{◌+◌, ap, add-zero}
-use Rattle.ghash.specs.Field.{product_steps}
+use Rattle.std.proofs.Common.{◌+◌}
 use Rattle.ghash.specs.Steps.{times_power}
 use Rattle.ghash.specs.Rows.{quad_value}
 use Rattle.ghash.specs.Table.{hash_key_of}
 use Rattle.ghash.proofs.Quads.{run_turn, run_done}
 use Rattle.ghash.proofs.table.Table.add_rows.Goals as goal
-
-pub loop-j-init : goal.loop-j-init
-loop-j-init c = ap (λ k. product_steps 32 c.args.word (times_power k (hash_key_of c.args.self.now)) (quad_value c.args.sum)) (add-zero c.args.from)
 
 pub loop-j-preserved : goal.loop-j-preserved
 loop-j-preserved c =

@@ -22,6 +22,3 @@ loop-i-preserved c =
       length-set _ _ _ ∙ inv.4,
       length-set _ _ _ ∙ inv.5,
     )
-
-pub invariant_of-result : goal.invariant_of-result
-invariant_of-result c = record { rows = λ k h. c.loop-i.invariant.1 k (omega arith) }

@@ -3,7 +3,7 @@ use Rattle.octets.specs.Bytes.{drop}
 use Rattle.ghash.specs.Ghash.{ghash}
 use Rattle.ghash.specs.Element.{value}
 use Rattle.ghash.specs.Table.{hash_key_of}
-use Rattle.ghash.proofs.hash.hash_whole.Given as goal
+use Rattle.ghash.proofs.hash.hash_padded.Given as goal
 
 abbrev pub invariant-loop-block : goal.invariant-loop-block
 invariant-loop-block l =
