@@ -1,5 +1,5 @@
--- The tag's parts: the block of lengths, and GHASH of additional data, ciphertext and lengths one after the other.
-use Rattle.std.proofs.Common.{◌≡◌, ℕ, ◌+◌, ◌-◌, ◌*◌, ◌/◌, ◌%◌, ◌^◌, ◌<◌, zero, suc, true, List, [], ◌∷◌, ◌++◌, length, sym, refl, ap, ◌∙◌, ap₂, mul_comm, arith, length-append, take_all, drop_at}
+-- The tag's parts: the block of lengths, GHASH of additional data, ciphertext and lengths one after the other, and the sum with a block.
+use Rattle.std.proofs.Common.{◌≡◌, ℕ, zero, suc, ◌+◌, ◌-◌, ◌*◌, ◌/◌, ◌%◌, ◌^◌, ◌<◌, true, List, [], ◌∷◌, ◌++◌, length, sym, refl, ap, ◌∙◌, ap₂, mul_comm, arith, length-append, take_all, drop_at}
 use lib.Bits.{bit_xor, xor_mod, xor_shr}
 use lib.ListN.{length-replicate}
 use Rattle.octets.specs.Bits.{bits_xor}

@@ -1,12 +1,11 @@
 -- Four words of 32 bits, and the table's rows.
-use Rattle.std.proofs.Common.{◌≡◌, ℕ, suc, ◌+◌, ◌-◌, ◌*◌, ◌/◌, ◌%◌, ◌^◌, ◌<◌, ◌≤◌, Bool, true, false, eqb, ◌≢◌, List, length, get_or, set, sym, refl, ap, ◌∙◌, ap₂, arith, get_or-set_other, get_or-set_same, below_more}
+use Rattle.std.proofs.Common.{◌≡◌, ℕ, suc, ◌+◌, ◌-◌, ◌*◌, ◌/◌, ◌%◌, ◌^◌, ◌<◌, Bool, true, false, eqb, ◌≢◌, List, length, get_or, set, sym, refl, ap, ◌∙◌, ap₂, arith, get_or-set_other, get_or-set_same, below_more}
 use lib.Bits.{bit_xor, bit_and, xor_zero_r, xor_block}
 use Rattle.octets.specs.Bits.{pick, bits_xor}
 use Rattle.ghash.specs.Field.{product_steps}
 use Rattle.ghash.specs.Steps.{times_x, times_power}
 use Rattle.ghash.specs.Rows.{four_words, row_value}
 use Rattle.octets.proofs.Bits.{bits_xor_is}
-use Rattle.ghash.proofs.Steps.{product_steps_done}
 use Rattle.ghash.proofs.Words.{low_bit, masked}
 use Rattle.ghash.proofs.Runs.{product_steps_bit, times_power_more}
 
@@ -53,11 +52,6 @@ run_turn j w from h z e y r hj he hy inv =
     ap₂ (λ k l. product_steps k w l y) m (ap (λ k. times_power k h) t ∙ sym (times_power_more (from + j) h))
     ∙ (ap (λ k. product_steps (31 - j) w (times_x v) k) (hy ∙ ap₂ (λ q k. pick (eqb q 1) (bits_xor 128 z k) z) (low_bit (w / 2 ^ (31 - j))) he)
     ∙ (sym (product_steps_bit (31 - j) w v z p refl) ∙ (ap (λ k. product_steps k w v z) s ∙ inv)))
-
-pub run_done : (j w v z r : ℕ) → 32 ≤ j → product_steps (32 - j) w v z ≡ r → z ≡ r
-run_done j w v z r hj inv =
-    let e : 0 ≡ 32 - j = omega arith in
-    sym (product_steps_done w v z) ∙ (ap (λ n. product_steps n w v z) e ∙ inv)
 
 -- one row more
 pub row_more : (a b c d : List ℕ) (i w x y z : ℕ) (F : ℕ → ℕ) → i < length a → i < length b → i < length c → i < length d

@@ -1,12 +1,8 @@
--- Sixteen bytes as two words of 64 bits, and fewer bytes filled with zeros up to sixteen.
+-- Sixteen bytes as two words of 64 bits.
 use Rattle.std.proofs.Common.{◌≡◌, ℕ, ◌+◌, ◌-◌, ◌*◌, ◌/◌, ◌%◌, ◌^◌, ◌<◌, List, length, get_or, sym, ap, ◌∙◌, arith, take_all, shl_exact}
-use lib.ListN as L
 use lib.Bits.{bit_and, bit_or, and_mask, or_shifted}
-use Rattle.octets.specs.Bytes.{take, drop, number, of_bytes}
-use Rattle.octets.proofs.Lists.{take_is, drop_is, elements, elements_are}
-
-part_is : (n at : ℕ) (s : List ℕ) → take n (drop at s) ≡ L.take n (L.drop at s)
-part_is n at s = take_is n (drop at s) ∙ ap (λ ys. L.take n ys) (drop_is at s)
+use Rattle.octets.specs.Bytes.{number, of_bytes}
+use Rattle.octets.proofs.Lists.{elements, elements_are}
 
 -- sixteen bytes read, the high one first
 pub sixteen_read : (s : List ℕ) → length s ≡ 16

@@ -1,13 +1,13 @@
 -- The code's operations on two words are those of the field on the number that the words stand for.
-use Rattle.std.proofs.Common.{◌≡◌, ℕ, zero, suc, ◌+◌, ◌-◌, ◌*◌, ◌/◌, ◌%◌, ◌^◌, ◌<◌, ◌≤◌, Bool, true, false, eqb, sym, refl, ap, ◌∙◌, ap₂, ⊎_elim, add-zero, mod-eq_of_lt, mul_assoc, add_comm, arith, pow_pos, pow-add, shr-shr}
-use native.Mathlib.Nat.{add-mul-div_right}
+use Rattle.std.proofs.Common.{◌≡◌, ℕ, zero, suc, ◌+◌, ◌-◌, ◌*◌, ◌/◌, ◌%◌, ◌^◌, ◌<◌, ◌≤◌, Bool, true, false, eqb, sym, refl, ap, ◌∙◌, ap₂, ⊎_elim, add-zero, mod-eq_of_lt, arith, shr-shr}
 use lib.Bits.{bit_xor, bit_and, bit_or, and_mask, and_comm, and_zero_r, or_shifted_r, xor_zero_r, xor_block}
-use lib.Pow.{high}
+use lib.Pow.{high, low}
 use Rattle.std.proofs.lemmas.Bool.{cases_lt}
 use Rattle.octets.specs.Bits.{pick, bits_xor, pow2}
 use Rattle.ghash.specs.Field.{reduction}
 use Rattle.ghash.specs.Steps.{times_x}
 use Rattle.octets.proofs.Bits.{pow2_is, bits_xor_is}
+use Rattle.ghash.proofs.Runs.{bit_of_low}
 
 pub xor_words : (h l k m : ℕ) → h < 2 ^ 64 → l < 2 ^ 64 → k < 2 ^ 64 → m < 2 ^ 64
     → bit_xor h k * 2 ^ 64 + bit_xor l m ≡ bits_xor 128 (h * 2 ^ 64 + l) (k * 2 ^ 64 + m)
@@ -35,20 +35,13 @@ pub masked : (w bit mask x : ℕ) → bit < 2 → (mask + bit) % 2 ^ w ≡ 0 →
 masked w bit mask x hb e wm hx = and_comm mask x ∙ (ap (λ k. bit_and x k) (mask_is w bit mask hb wm e) ∙ kept w (eqb bit 1) x hx)
 
 -- a bit of the low word, and of the high one
-even_more : (a b : ℕ) → (a + b * 2) % 2 ≡ a % 2
-even_more a b = omega arith
-
-pub bit_low : (h l n : ℕ) → n < 64 → bit_and (l / 2 ^ n) 1 ≡ (h * 2 ^ 64 + l) / pow2 n % 2
-bit_low h l n hn =
-    let e : 63 - n + 1 + n ≡ 64 = omega arith in
-    let p : 2 ^ 64 ≡ 2 ^ (63 - n) * 2 * 2 ^ n = ap (λ k. 2 ^ k) (sym e) ∙ (pow-add 2 (63 - n + 1) n ∙ ap (λ k. k * 2 ^ n) (pow-add 2 (63 - n) 1)) in
-    let q : h * 2 ^ 64 ≡ h * 2 ^ (63 - n) * 2 * 2 ^ n =
-    ap (λ k. h * k) p ∙ (sym (mul_assoc h (2 ^ (63 - n) * 2) (2 ^ n)) ∙ ap (λ k. k * 2 ^ n) (sym (mul_assoc h (2 ^ (63 - n)) 2))) in
+pub bit_low : (h l n : ℕ) → l < 2 ^ 64 → n < 64 → bit_and (l / 2 ^ n) 1 ≡ (h * 2 ^ 64 + l) / pow2 n % 2
+bit_low h l n hl hn =
+    let x : ℕ = h * 2 ^ 64 + l in
+    let e : suc (63 - n) + n ≡ 64 = omega arith in
     low_bit (l / 2 ^ n)
-    ∙ (sym (even_more (l / 2 ^ n) (h * 2 ^ (63 - n)))
-    ∙ ap (λ k. k % 2)
-    (sym (add-mul-div_right l (h * 2 ^ (63 - n) * 2) (pow_pos n))
-    ∙ ap₂ (λ a b. a / b) (add_comm l (h * 2 ^ (63 - n) * 2 * 2 ^ n) ∙ ap (λ k. k + l) (sym q)) (sym (pow2_is n))))
+    ∙ (ap (λ k. k / 2 ^ n % 2) (sym (low h 64 hl) ∙ ap (λ k. x % 2 ^ k) (sym e))
+    ∙ (bit_of_low x (63 - n) n ∙ ap (λ k. x / k % 2) (sym (pow2_is n))))
 
 pub bit_high : (h l n : ℕ) → l < 2 ^ 64 → 64 ≤ n → bit_and (h / 2 ^ (n - 64)) 1 ≡ (h * 2 ^ 64 + l) / pow2 n % 2
 bit_high h l n hl hn =

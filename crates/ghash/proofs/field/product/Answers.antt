@@ -1,3 +1,4 @@
+use Rattle.std.proofs.Common.{◌-◌, arith}
 use Rattle.ghash.specs.Element.{value}
 use Rattle.ghash.proofs.Steps.{product_turn, product_end}
 use Rattle.ghash.proofs.field.product.Goals as goal
@@ -9,4 +10,4 @@ loop-i-preserved c =
 
 pub returns : goal.returns
 returns c =
-    record { value = product_end c.loop-i.i (value c.args.x) (value c.loop-i.v) (value c.loop-i.sum) _ c.loop-i-test.false c.loop-i.invariant }
+    record { value = product_end (128 - c.loop-i.i) (value c.args.x) (value c.loop-i.v) (value c.loop-i.sum) _ (omega arith) c.loop-i.invariant }

@@ -1,8 +1,9 @@
-use Rattle.std.proofs.Common.{◌+◌}
+use Rattle.std.proofs.Common.{◌+◌, ◌-◌, arith}
 use Rattle.ghash.specs.Steps.{times_power}
 use Rattle.ghash.specs.Rows.{quad_value}
 use Rattle.ghash.specs.Table.{hash_key_of}
-use Rattle.ghash.proofs.Quads.{run_turn, run_done}
+use Rattle.ghash.proofs.Steps.{product_end}
+use Rattle.ghash.proofs.Quads.{run_turn}
 use Rattle.ghash.proofs.table.Table.add_rows.Goals as goal
 
 pub loop-j-preserved : goal.loop-j-preserved
@@ -12,5 +13,5 @@ loop-j-preserved c =
 
 pub returns : goal.returns
 returns c =
-    run_done c.loop-j.j c.args.word (times_power (c.args.from + c.loop-j.j) (hash_key_of c.args.self.now)) (quad_value c.loop-j.s) _
-    c.loop-j-test.false c.loop-j.invariant
+    product_end (32 - c.loop-j.j) c.args.word (times_power (c.args.from + c.loop-j.j) (hash_key_of c.args.self.now)) (quad_value c.loop-j.s) _
+    (omega arith) c.loop-j.invariant
