@@ -6,7 +6,7 @@ use Rattle.std.proofs.lemmas.Grind.{flat_map-append}
 use Rattle.std.proofs.lemmas.Bool.{and_parts, and_from, and_left, and_right, leb-true, lt-leb, lt-ltb, ltb-false, cond-true, cond-false}
 use Rattle.format.specs.Request.{field, fits_field, rising, pairs_bytes, short_pairs, data_keys_bytes, short_data_keys}
 use Rattle.header.specs.Models.{pair, pairs, data_key, data_keys}
-use Rattle.header.specs.Checked.{length_if, context_length, short_data_key, data_keys_length}
+use Rattle.header.specs.Checked.{length_if, short_length_if, context_length, short_data_key, data_keys_length}
 use Rattle.header.specs.Written.{pair_bytes, short_pair, data_key_bytes}
 use Rattle.header.specs.declared.request.Pair.{Pair}
 use Rattle.header.specs.declared.request.EncryptedDataKey.{EncryptedDataKey}
@@ -73,8 +73,7 @@ data_keys_all_short (k ∷ ks) = ap (λ b. short_data_key (data_key k) && b) (da
 
 -- what a length of pairs, or none, says
 abbrev pub pairs_len : List Pair → Option ℕ
-pairs_len ps =
-    length_if (list_all (λ p. short_pair (pair p)) ps && ltb (length (flat_map (λ p. pair_bytes (pair p)) ps)) 18446744073709551616) (flat_map (λ p. pair_bytes (pair p)) ps)
+pairs_len ps = short_length_if (list_all (λ p. short_pair (pair p)) ps) (flat_map (λ p. pair_bytes (pair p)) ps)
 
 not_in_field : (r s : Bool) (n : ℕ) → (s && ltb n 18446744073709551616) ≡ false → ((r && s) && leb (2 + n) 65535) ≡ false
 not_in_field r true n e = let l : 18446744073709551616 ≤ n = ltb-false _ _ e in and_right (r && true) _ (lt-leb _ _ (omega arith))
@@ -93,8 +92,7 @@ pairs_too_long ps h = length_if_false _ _ (and_right (rising (pairs ps) && short
 
 -- and of data keys
 abbrev pub keys_len : List EncryptedDataKey → Option ℕ
-keys_len ks =
-    length_if (list_all (λ k. short_data_key (data_key k)) ks && ltb (length (flat_map (λ k. data_key_bytes (data_key k)) ks)) 18446744073709551616) (flat_map (λ k. data_key_bytes (data_key k)) ks)
+keys_len ks = short_length_if (list_all (λ k. short_data_key (data_key k)) ks) (flat_map (λ k. data_key_bytes (data_key k)) ks)
 
 pub keys_some : (ks : List EncryptedDataKey) (n : ℕ) → Some n ≡ keys_len ks → (n ≡ length (data_keys_bytes (data_keys ks))) × (short_data_keys (data_keys ks) ≡ true)
 keys_some ks n h =

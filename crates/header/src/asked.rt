@@ -28,6 +28,7 @@ pub struct Header<'c, 'n, 'v, 'e, 'p, 'o, 'w> {
 
 impl<'c, 'n, 'v, 'e, 'p, 'o, 'w> Header<'c, 'n, 'v, 'e, 'p, 'o, 'w> {
     // what a request asks for, or the refusal by the first check that it fails
+    #[tactic(auto, unfolding(octets::specs::Bits::pick, format::specs::Request::end_marker))]
     pub fn checked(
         asked: HeaderRequest<'_, 'c, 'n, 'v, 'e, 'p, 'o, 'w>,
     ) -> Result<Header<'c, 'n, 'v, 'e, 'p, 'o, 'w>, SealRefusal>

@@ -18,6 +18,7 @@ pub fn array_32(bytes: &[u8]) -> Option<[u8; 32]>
 }
 
 // whether so long a text can be sealed in frames of this length
+#[tactic(auto, unfolding(format::specs::Request::end_marker))]
 pub fn text_fits(text_len: u64, frame_length: u32) -> bool
     ensures value { result ≡ text_fits text_len frame_length }
 {
@@ -38,6 +39,7 @@ pub fn check_header(header: HeaderRequest) -> Result<CheckedHeader, SealRefusal>
 }
 
 // a whole request
+#[tactic(auto, unfolding(octets::specs::Bits::pick, format::specs::Request::end_marker))]
 pub fn check(request: Request) -> Result<Checked, SealRefusal>
     ensures value { answer_number result ≡ seal_refusal (request_of request.entry) }
     ensures checked { RequestChecked request.entry result }

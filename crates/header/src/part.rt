@@ -1,11 +1,11 @@
 // Fields, and the lists that a header has of what is made of fields.
-ghost use Rattle.std.specs.Prelude.{◌≡◌, ◌≤◌, ◌++◌, ◌&&◌, ℕ, Bool, true, List, length, nat_lt};
+ghost use Rattle.std.specs.Prelude.{◌≡◌, ◌≤◌, ◌++◌, ℕ, Bool, true, List, length};
 ghost use Rattle.std.specs.List.{flat_map, list_all};
 ghost use Rattle.octets.specs.Bytes.{to_bytes};
 ghost use Rattle.octets.specs.Writing.{Writes};
 ghost use Rattle.format.specs.Request.{field, fits_field};
 ghost use Rattle.header.specs.Models.{pair, data_key};
-ghost use Rattle.header.specs.Checked.{short_data_key, length_if};
+ghost use Rattle.header.specs.Checked.{short_data_key, length_if, short_length_if};
 ghost use Rattle.header.specs.Written.{pair_bytes, short_pair, data_key_bytes};
 
 use crate::request::{EncryptedDataKey, Pair};
@@ -82,7 +82,7 @@ impl Part for EncryptedDataKey<'_, '_, '_> {
 
 // how many bytes all parts have; None where a field is too long, or no number is so large
 pub fn parts_len<P: Part>(parts: &[P]) -> Option<usize>
-    ensures { result ≡ length_if (list_all P.short parts.now && nat_lt (length (flat_map P.bytes parts.now)) 18446744073709551616) (flat_map P.bytes parts.now) }
+    ensures { result ≡ short_length_if (list_all P.short parts.now) (flat_map P.bytes parts.now) }
 {
     let mut len = 0usize;
     for part in parts {
