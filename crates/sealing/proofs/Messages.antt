@@ -1,5 +1,5 @@
 -- Messages in parts: the start and the frames, how long they are, and that sums of lengths don't wrap.
-use Rattle.std.proofs.Common.{◌≡◌, ℕ, suc, ◌+◌, ◌-◌, ◌*◌, ◌/◌, ◌<◌, ◌≤◌, true, List, [], ◌++◌, length, take, sym, refl, ap, ◌∙◌, subst, ap₂, append_assoc, mul-le-mul_right, div-lt_iff_lt-mul, arith, length-append}
+use Rattle.std.proofs.Common.{◌≡◌, ℕ, suc, ◌+◌, ◌-◌, ◌*◌, ◌/◌, ◌<◌, ◌≤◌, true, List, [], ◌++◌, length, take, drop, sym, refl, ap, ◌∙◌, subst, ap₂, append_assoc, mul-le-mul_right, div-lt_iff_lt-mul, arith, length-append, length-drop, length-take-le}
 use borrow.Rule.Slice.PartMut.{put_mid}
 use Rattle.std.proofs.lemmas.Bool.{and_parts, and_from, leb-true, ltb-true, le-leb, lt-ltb, cond-true}
 use Rattle.octets.specs.Splice.{Written}
@@ -88,6 +88,10 @@ frames_room r first at room n p low l =
     let m = length_message r low in
     omega arith
 
+-- how long a part is
+pub part_long : (xs : List ℕ) (a e : ℕ) → a ≤ e → e ≤ length xs → length (take (e - a) (drop a xs)) ≡ e - a
+part_long xs a e h l = length-take-le (e - a) (drop a xs) (omega (arith, length-drop a xs))
+
 -- what the check of a text says
 pub text_short : (text frame_length : ℕ) → text_fits text frame_length ≡ true → (text ≤ 4294967295 * frame_length) × (text < 9223372036854775808)
 unfolding end_marker
@@ -95,7 +99,7 @@ text_short text frame_length e =
     let p = and_parts _ _ e in
     (leb-true _ _ p.0, ltb-true _ _ p.1)
 
-pub few_frames : (text frame_length : ℕ) → 0 < frame_length → text ≤ 4294967295 * frame_length → (text - 1) / frame_length < 4294967296
+pub few_frames : (text frame_length : ℕ) → 0 < frame_length → text ≤ 4294967295 * frame_length → (text - 1) / frame_length < 4294967295
 few_frames text frame_length p h = (div-lt_iff_lt-mul p).1 (omega arith)
 
 -- a header that passed isn't long
