@@ -29,6 +29,7 @@ fn read_body(kind: FrameKind, len: usize, bytes: &[u8]) -> Option<Frame<'_>>
     })
 }
 
+// What comes after a regular frame's number, and after the end marker: the two share the nonce and the body only.
 fn read_regular(frame_length: u32, number: u32, bytes: &[u8]) -> Option<Frame<'_>>
     ensures { next_frame result ≡ read_regular frame_length number bytes.now }
 {

@@ -20,6 +20,8 @@ use Rattle.header.proofs.Lengths.{length_header, data_keys_told, context_short}
 use Rattle.header.proofs.Refusals.{header_passed}
 use Rattle.frames.specs.Cipher.{header_tag}
 use Rattle.sealing.specs.Whole.{sealed_message, start, frames_length}
+use Rattle.sealing.specs.Calls.{text_before}
+use Rattle.sealing.specs.declared.state.Sealer.{Sealer}
 
 -- a message is its start and its frames, and the start is a header and its tag
 pub message_is : (r : Rq.Request) → start r ++ frames (suc (length r.text)) (sealing_key r.key r.id) r.id r.frame_length 1 r.text ≡ sealed_message r
@@ -102,6 +104,12 @@ text_short text frame_length e =
 pub few_frames : (text frame_length : ℕ) → 0 < frame_length → text ≤ 4294967295 * frame_length → (text - 1) / frame_length < 4294967295
 few_frames text frame_length p h = (div-lt_iff_lt-mul p).1 (omega arith)
 
+pub regular_few : (text less frame_length : ℕ) → less ≡ text - 1 → 0 < frame_length → text_fits text frame_length ≡ true → (less / frame_length ≡ (text - 1) / frame_length) × (less / frame_length < 4294967295)
+regular_few text less frame_length e p h =
+    let same : less / frame_length ≡ (text - 1) / frame_length = ap (λ n. n / frame_length) e in
+    let few = few_frames text frame_length p (text_short text frame_length h).0 in
+    (same, omega arith)
+
 -- a header that passed isn't long
 pub header_short : (h : HeaderRequest) (c : CheckedHeader) → header_refusal (request_with [] h []) ≡ 0 → HandsOnHeader h c → c.header_len ≤ 12885100000
 header_short h c e t =
@@ -117,5 +125,11 @@ header_short h c e t =
     let kf = keys.fits in
     omega arith
 
-pub product_short : (a b : ℕ) → a < 4294967296 → b < 4294967296 → a * b ≤ 18446744065119617025
+product_short : (a b : ℕ) → a < 4294967296 → b < 4294967296 → a * b ≤ 18446744065119617025
 product_short a b p q = let m : a * b ≤ 4294967295 * b = mul-le-mul_right b (let l : a ≤ 4294967295 = omega arith in l) in omega arith
+
+pub text_before_short : (s : Sealer) → text_before s ≤ 18446744065119617025
+text_before_short s =
+    let few = s.few in
+    let fits = s.fits in
+    product_short (s.number - 1) s.frame_length (omega arith) (omega arith)

@@ -65,9 +65,14 @@ fn seal_frames(cipher: &MessageCipher, framing: Framing, text: &[u8], out: &mut 
     for done in 0..regular {
         let from = done as usize * step;
         let at = done as usize * sealed;
-        let (text, out) = (&text[from..from + step], &mut out[at..at + sealed]);
+        let part = &text[from..from + step];
         cipher
-            .seal_frame(FrameKind::Regular, done + 1, text, out)
+            .seal_frame(
+                FrameKind::Regular,
+                done + 1,
+                part,
+                &mut out[at..at + sealed],
+            )
             .unwrap();
     }
     let from = regular as usize * step;
