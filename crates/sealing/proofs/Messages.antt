@@ -5,6 +5,7 @@ use Rattle.std.proofs.lemmas.Bool.{and_parts, and_from, leb-true, ltb-true, le-l
 use Rattle.octets.specs.Splice.{Written}
 use Rattle.octets.proofs.Splice.{written_then, written_all, spliced_mid, length-spliced, take-spliced_through}
 use Rattle.hkdf.specs.MessageKeys.{sealing_key, commitment}
+use Rattle.gcm.specs.Key.{key_of}
 use Rattle.format.specs.Request as Rq
 use Rattle.format.specs.Request.{end_marker}
 use Rattle.format.specs.Header.{header_bytes, header_of}
@@ -20,7 +21,9 @@ use Rattle.header.proofs.Lengths.{length_header, data_keys_told, context_short}
 use Rattle.header.proofs.Refusals.{header_passed}
 use Rattle.frames.specs.Cipher.{header_tag}
 use Rattle.sealing.specs.Whole.{sealed_message, start, frames_length}
+use Rattle.sealing.specs.Keys.{KeysFor}
 use Rattle.sealing.specs.Calls.{text_before}
+use Rattle.sealing.specs.declared.keys.Keys.{Keys}
 use Rattle.sealing.specs.declared.state.Sealer.{Sealer}
 
 -- a message is its start and its frames, and the start is a header and its tag
@@ -28,9 +31,9 @@ pub message_is : (r : Rq.Request) → start r ++ frames (suc (length r.text)) (s
 unfolding sealed_message start
 message_is r = append_assoc (header_bytes (header_of r)) _ _
 
-pub start_is : (key : List ℕ) (h : HeaderRequest) (t cipher c : List ℕ) → cipher ≡ sealing_key key h.id.now → c ≡ commitment key h.id.now → asked_bytes h c ++ header_tag cipher (asked_bytes h c) ≡ start (request_with key h t)
+pub start_is : (key : List ℕ) (h : HeaderRequest) (t : List ℕ) (k : Keys) → KeysFor key h.id.now k → asked_bytes h k.commitment ++ header_tag (key_of k.cipher.key) (asked_bytes h k.commitment) ≡ start (request_with key h t)
 unfolding start header_tag
-start_is key h t cipher c p q = ap₂ (λ a b. asked_bytes h b ++ header_tag a (asked_bytes h b)) p q
+start_is key h t k p = ap₂ (λ a b. asked_bytes h b ++ header_tag a (asked_bytes h b)) p.sealing_key p.commitment
 
 pub start_any_text : (key : List ℕ) (h : HeaderRequest) (t u : List ℕ) → start (request_with key h t) ≡ start (request_with key h u)
 unfolding start
@@ -56,9 +59,9 @@ tagged old mid out front tag cipher end at k w ek e v =
     let P : List ℕ → Type 0 = λ l. Written old 0 (front ++ l) at out in
     subst P (e ∙ ap (λ l. header_tag cipher l) there) (written_then old mid out front tag 0 end at w v)
 
-pub start_written : (key : List ℕ) (h : HeaderRequest) (t cipher c old out : List ℕ) (n : ℕ) → cipher ≡ sealing_key key h.id.now → c ≡ commitment key h.id.now
-    → Written old 0 (asked_bytes h c ++ header_tag cipher (asked_bytes h c)) n out → Written old 0 (start (request_with key h t)) n out
-start_written key h t cipher c old out n p q w = let P : List ℕ → Type 0 = λ l. Written old 0 l n out in subst P (start_is key h t cipher c p q) w
+pub start_written : (key : List ℕ) (h : HeaderRequest) (t : List ℕ) (k : Keys) (old out : List ℕ) (n : ℕ) → KeysFor key h.id.now k
+    → Written old 0 (asked_bytes h k.commitment ++ header_tag (key_of k.cipher.key) (asked_bytes h k.commitment)) n out → Written old 0 (start (request_with key h t)) n out
+start_written key h t k old out n p w = let P : List ℕ → Type 0 = λ l. Written old 0 l n out in subst P (start_is key h t k p) w
 
 -- the whole written: a start, and the frames over the rest
 pub whole : (r : Rq.Request) (old mid part first : List ℕ) (at k : ℕ) → Written old 0 first at mid → first ≡ start r → length old ≡ length (sealed_message r) → length part ≡ k
@@ -80,9 +83,9 @@ start_as_checked key h t c g = length_start key h t ∙ ap (λ n. n + 16) (sym (
 at_most : (a b f n : ℕ) → a ≡ b → n ≡ b + f → a ≤ n
 at_most a b f n p q = omega arith
 
-pub start_room : (key : List ℕ) (h : HeaderRequest) (t c : List ℕ) (room : ℕ) → c ≡ commitment key h.id.now → 0 < h.frame_length → room ≡ length (sealed_message (request_with key h t)) → length (asked_bytes h c) + 16 ≤ room
-start_room key h t c room p low l =
-    at_most _ _ _ room (ap (λ x. length (asked_bytes h x) + 16) p ∙ sym (length_start key h t)) (l ∙ length_message (request_with key h t) low)
+pub start_room : (key : List ℕ) (h : HeaderRequest) (t : List ℕ) (k : Keys) (room : ℕ) → KeysFor key h.id.now k → 0 < h.frame_length → room ≡ length (sealed_message (request_with key h t)) → length (asked_bytes h k.commitment) + 16 ≤ room
+start_room key h t k room p low l =
+    at_most _ _ _ room (ap (λ x. length (asked_bytes h x) + 16) p.commitment ∙ sym (length_start key h t)) (l ∙ length_message (request_with key h t) low)
 
 pub frames_room : (r : Rq.Request) (first : List ℕ) (at room : ℕ) → at ≡ 0 + length first → first ≡ start r → 0 < r.frame_length → room ≡ length (sealed_message r) → room - at ≡ frames_length (length r.text) r.frame_length
 frames_room r first at room n p low l =

@@ -1,12 +1,12 @@
 // The keys of one message, prepared, and the start of a message that is sealed with them.
 ghost use Rattle.std.specs.Prelude.{◌≡◌, ◌+◌, ◌≤◌, [], ◌++◌, length};
 ghost use Rattle.octets.specs.Splice.{Written};
-ghost use Rattle.hkdf.specs.MessageKeys.{sealing_key, commitment as commitment-of};
 ghost use Rattle.gcm.specs.Key.{key_of};
 ghost use Rattle.header.specs.Models.{request_with};
 ghost use Rattle.header.specs.Checked.{header_refusal};
 ghost use Rattle.header.specs.Written.{asked_bytes};
 ghost use Rattle.frames.specs.Cipher.{header_tag};
+ghost use Rattle.sealing.specs.Keys.{KeysFor};
 
 use frames::MessageCipher;
 use gcm::Key;
@@ -23,9 +23,7 @@ pub struct Keys {
 impl Keys {
     // The cipher under the sealing key, and the commitment; the sealing key itself is overwritten.
     pub fn new(key: [u8; 32], id: [u8; 32]) -> Keys
-        ensures cipher { key_of result.cipher.key ≡ sealing_key key id }
-        ensures id { result.cipher.id ≡ id }
-        ensures commitment { result.commitment ≡ commitment-of key id }
+        ensures { KeysFor key id result }
     {
         let mut keys = message_keys(key, id);
         let prepared = Key::new(&keys.sealing_key);

@@ -1,5 +1,4 @@
 use Rattle.std.proofs.Common.{◌≡◌, suc, length, sym, refl, ◌∙◌, ap₂, arith}
-use Rattle.hkdf.specs.MessageKeys.{sealing_key, commitment}
 use Rattle.format.specs.Message.{frames}
 use Rattle.header.specs.Models.{request_of}
 use Rattle.header.proofs.Refusals.{header_passed}
@@ -16,20 +15,20 @@ pub write_start-at-requires : goal.write_start-at-requires
 write_start-at-requires c =
     let parts = passed_parts (request_of c.args.request) c.requires.passed in
     let low = (header_passed (request_of c.args.request) (sym parts.0)).frame_length in
-    let commit = c.new-keys.ensures.commitment ∙ ap₂ (λ a b. commitment a b) c.requires.checked.key c.requires.checked.header.id in
-    record { passed = parts.0; room = start_room c.args.request.key.now c.args.request.header c.args.request.text.now _ _ commit low c.requires.room }
+    let keys = rw (c.requires.checked.key, c.requires.checked.header.id) at c.new-keys.ensures in
+    record { passed = parts.0; room = start_room c.args.request.key.now c.args.request.header c.args.request.text.now _ _ keys low c.requires.room }
 
 pub seal_frames-requires : goal.seal_frames-requires
 seal_frames-requires c =
     let parts = passed_parts (request_of c.args.request) c.requires.passed in
     let low = (header_passed (request_of c.args.request) (sym parts.0)).frame_length in
-    let cipher = c.new-keys.ensures.cipher ∙ ap₂ (λ a b. sealing_key a b) c.requires.checked.key c.requires.checked.header.id in
-    let commit = c.new-keys.ensures.commitment ∙ ap₂ (λ a b. commitment a b) c.requires.checked.key c.requires.checked.header.id in
-    let first = start_is c.args.request.key.now c.args.request.header c.args.request.text.now _ _ cipher commit in
-    let next = c.write_start-at.ensures.next in
-    let fit = c.write_start-at.ensures.room in
+    let keys = rw (c.requires.checked.key, c.requires.checked.header.id) at c.new-keys.ensures in
+    let first = start_is c.args.request.key.now c.args.request.header c.args.request.text.now _ keys in
+    let w = c.write_start-at.ensures in
+    let fit = w.room in
+    let next = w.next in
     let mid : length c.write_start-at.new.out ≡ length c.args.out.now = omega arith in
-    let room = frames_room (request_of c.args.request) _ c.write_start-at.result (length c.write_start-at.new.out) c.write_start-at.ensures.next first low (mid ∙ c.requires.room) in
+    let room = frames_room (request_of c.args.request) _ c.write_start-at.result (length c.write_start-at.new.out) w.next first low (mid ∙ c.requires.room) in
     record {
       text = refl;
       room = part_long c.write_start-at.new.out c.write_start-at.result (length c.write_start-at.new.out) (omega arith) (omega arith) ∙ room;
@@ -37,11 +36,12 @@ seal_frames-requires c =
 
 pub returns : goal.returns
 returns c =
-    let cipher = c.new-keys.ensures.cipher ∙ ap₂ (λ a b. sealing_key a b) c.requires.checked.key c.requires.checked.header.id in
-    let commit = c.new-keys.ensures.commitment ∙ ap₂ (λ a b. commitment a b) c.requires.checked.key c.requires.checked.header.id in
-    let next = c.write_start-at.ensures.next in
-    let fit = c.write_start-at.ensures.room in
-    whole (request_of c.args.request) c.args.out.now c.write_start-at.new.out c.seal_frames.new.out _ c.write_start-at.result _ c.write_start-at.ensures
-    (start_is c.args.request.key.now c.args.request.header c.args.request.text.now _ _ cipher commit) c.requires.room (let long = part_long c.write_start-at.new.out c.write_start-at.result (length c.write_start-at.new.out) (omega arith) (omega arith) in omega arith)
+    let keys = rw (c.requires.checked.key, c.requires.checked.header.id) at c.new-keys.ensures in
+    let w = c.write_start-at.ensures in
+    let fit = w.room in
+    let next = w.next in
+    let long = part_long c.write_start-at.new.out c.write_start-at.result (length c.write_start-at.new.out) (omega arith) (omega arith) in
+    whole (request_of c.args.request) c.args.out.now c.write_start-at.new.out c.seal_frames.new.out _ c.write_start-at.result _ w
+    (start_is c.args.request.key.now c.args.request.header c.args.request.text.now _ keys) c.requires.room (omega arith)
     (c.seal_frames.ensures
-    ∙ ap₂ (λ a b. frames (suc (length c.args.request.text.now)) a b c.args.request.header.frame_length 1 c.args.request.text.now) cipher (c.new-keys.ensures.id ∙ c.requires.checked.header.id))
+    ∙ ap₂ (λ a b. frames (suc (length c.args.request.text.now)) a b c.args.request.header.frame_length 1 c.args.request.text.now) keys.sealing_key keys.id)

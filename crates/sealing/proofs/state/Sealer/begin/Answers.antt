@@ -1,7 +1,6 @@
-use Rattle.std.proofs.Common.{[], length, sym, refl, ap, ◌∙◌, ap₂, arith}
+use Rattle.std.proofs.Common.{[], length, sym, refl, ap, ◌∙◌, arith}
 use Rattle.std.proofs.lemmas.Result.{err_from_is_err_and}
 use Rattle.std.proofs.lemmas.Bool.{eqb-true}
-use Rattle.hkdf.specs.MessageKeys.{sealing_key, commitment}
 use Rattle.header.specs.Models.{request_with}
 use Rattle.header.proofs.Lengths.{some_cond}
 use Rattle.header.proofs.Refusals.{numbers_positive, header_passed}
@@ -38,13 +37,12 @@ pub returns : goal.returns
 returns c =
     let k = some_cond _ _ _ (sym c.in_ok-key.ensures.ok_part ∙ c.array_32.ensures.value) in
     let checked = c.in_ok-checked.ensures.checked in
-    let cipher = c.new-keys.ensures.cipher ∙ ap₂ (λ a b. sealing_key a b) k.1 checked.id in
-    let commit = c.new-keys.ensures.commitment ∙ ap₂ (λ a b. commitment a b) k.1 checked.id in
+    let keys = rw (k.1, checked.id) at c.new-keys.ensures in
     let long = start_as_checked c.args.key.now c.args.header [] c.in_ok-checked.checked c.in_ok-checked.ensures.checked in
     record {
       value = start_passes c.args.key.now c.args.header (length c.args.out.now) (eqb-true _ _ k.0) c.in_ok-checked.ensures.value (omega arith);
       written = (
-        record { key_long = eqb-true _ _ k.0; passed = sym c.in_ok-checked.ensures.value; cipher = cipher; id = c.new-keys.ensures.id ∙ checked.id; frame_length = refl; number = refl; unfinished = refl },
-        start_written c.args.key.now c.args.header [] _ _ _ _ _ cipher commit c.write_start-len.ensures,
+        record { key_long = eqb-true _ _ k.0; passed = sym c.in_ok-checked.ensures.value; cipher = keys.sealing_key; id = keys.id; frame_length = refl; number = refl; unfinished = refl },
+        start_written c.args.key.now c.args.header [] _ _ _ _ keys c.write_start-len.ensures,
       );
     }
