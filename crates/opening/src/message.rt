@@ -56,10 +56,7 @@ pub fn open<'m>(
         return Err(OpenRefusal::OutTooShort);
     }
     let answer = open_message(key, message, out);
-    let Ok(opened) = answer else {
-        clear(out);
-        return answer;
-    };
-    clear(&mut out[opened.len..]);
+    let len = answer.map_or(0, |opened| opened.len);
+    clear(&mut out[len..]);
     answer
 }

@@ -92,10 +92,9 @@ impl Opener {
         ensures value { Nexts self.old bytes.now at_end out.old result self.new out.new }
     {
         let answer = self.step(bytes, at_end, out);
-        if answer.is_ok() {
-            return answer;
+        if answer.is_err() {
+            clear(out);
         }
-        clear(out);
         answer
     }
 
