@@ -7,9 +7,6 @@ use Rattle.opening.proofs.FrameByFrame.{at_the_end, after_final, no_frame, rest_
 use Rattle.opening.proofs.state.Opener.step.Goals as goal
 use Rattle.opening.proofs.state.Opener.step.Goals.{then-at_end-via-then-at_end, then-at_end-via-else-at_end+then-bytes-self}
 
-pub returns-then-is_empty : goal.returns-then-is_empty
-returns-then-is_empty c = record { value = at_the_end c.args.self.now c.args.bytes.now c.args.at_end c.args.out.now c.if-self.true c.if-is_empty.ensures }
-
 pub returns-then-self : goal.returns-then-self
 returns-then-self c = record { value = after_final c.args.self.now c.args.bytes.now c.args.at_end c.args.out.now c.if-self.true c.if-is_empty.ensures }
 
