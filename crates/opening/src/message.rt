@@ -28,16 +28,13 @@ fn open_message<'m>(
     ensures value { answer result out.new ≡ opening key.now message.now }
     ensures within { text_len result ≤ length out.old }
 {
-    let Some(read) = read_header(message) else {
-        return Err(OpenRefusal::NoHeader);
-    };
+    let read = read_header(message).ok_or(OpenRefusal::NoHeader)?;
     let mut unlocked = unlock(key, message, read)?;
     let opened = open_frames(&unlocked, read.rest, out);
-    unlocked.key.wipe();
-    let len = opened?;
+    unlocked.cipher.wipe();
     Ok(Opened {
         context: read.header.context,
-        len,
+        len: opened?,
     })
 }
 

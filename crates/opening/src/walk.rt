@@ -4,7 +4,7 @@ ghost use Rattle.opening.specs.Unlocked.{FramesOpen, frames_len};
 
 use crate::refusal::OpenRefusal;
 use crate::unlock::Unlocked;
-use frames::{open_frame, read_frame};
+use frames::{FrameKind, read_frame};
 
 // The texts of all frames, one after another, from the front of the lent bytes on; and how long they are.
 pub fn open_frames(unlocked: &Unlocked, bytes: &[u8], out: &mut [u8]) -> Result<usize, OpenRefusal>
@@ -20,16 +20,11 @@ pub fn open_frames(unlocked: &Unlocked, bytes: &[u8], out: &mut [u8]) -> Result<
             break 'frames OpenRefusal::Frame(number);
         };
         let end = at + frame.ciphertext.len();
-        if !open_frame(
-            &unlocked.key,
-            &unlocked.id,
-            number,
-            frame,
-            &mut out[at..end],
-        ) {
+        let opened = unlocked.cipher.open_frame(number, frame, &mut out[at..end]);
+        if opened.is_err() {
             break 'frames OpenRefusal::FrameTag(number);
         }
-        if frame.last {
+        if frame.kind == FrameKind::Final {
             if frame.rest.is_empty() {
                 return Ok(end);
             }

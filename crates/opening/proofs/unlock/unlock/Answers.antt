@@ -13,13 +13,13 @@ returns-then-not-equal c = λ rest.
 
 pub returns-then-not-header_tag_right : goal.returns-then-not-header_tag_right
 returns-then-not-header_tag_right c = λ rest.
-    wrong_tag c.args.key.now (header_in c.args.read.header) c.args.read.tag.now c.copy_32-id.result c.message_keys.result.commitment (key_of c.new-prepared.result) rest c.copy_32-id.ensures c.message_keys.ensures.value.1
-    c.if-not-equal.ensures.value (c.new-prepared.ensures.value ∙ c.message_keys.ensures.value.0) c.if-not-header_tag_right.ensures
+    wrong_tag c.args.key.now (header_in c.args.read.header) c.args.read.tag.now c.copy_32-id.result c.message_keys.result.commitment (key_of c.new.result) rest c.copy_32-id.ensures c.message_keys.ensures.value.1
+    c.if-not-equal.ensures.value (c.new.ensures.value ∙ c.message_keys.ensures.value.0) c.if-not-header_tag_right.ensures
 
 pub returns : goal.returns
 returns c = (
   record { id = sym c.copy_32-id.ensures; frame_length = refl },
   λ rest.
-      unlocked c.args.key.now (header_in c.args.read.header) c.args.read.tag.now c.copy_32-id.result c.message_keys.result.commitment (key_of c.new-prepared.result) rest c.copy_32-id.ensures c.message_keys.ensures.value.1
-      c.if-not-equal.ensures.value (c.new-prepared.ensures.value ∙ c.message_keys.ensures.value.0) c.if-not-header_tag_right.ensures,
+      unlocked c.args.key.now (header_in c.args.read.header) c.args.read.tag.now c.copy_32-id.result c.message_keys.result.commitment (key_of c.new.result) rest c.copy_32-id.ensures c.message_keys.ensures.value.1
+      c.if-not-equal.ensures.value (c.new.ensures.value ∙ c.message_keys.ensures.value.0) c.if-not-header_tag_right.ensures,
 )

@@ -15,7 +15,7 @@ returns-then-is_empty c = record {
   value = λ h m.
       sym (pick_true _ _ _ (sym c.if-is_empty.ensures))
       ∙ going_final c.args.unlocked.now c.args.bytes.now c.frames.out c.frames.rest.now c.open_frame.new.out c.frames.number c.frames.at (frame_of c.in-Some.frame) c.frames.invariant c.in-Some.ensures.value (c.frames.at + length c.in-Some.frame.ciphertext.now - c.frames.at) (c.frames.at + length c.in-Some.frame.ciphertext.now)
-      (text_found (key_of c.args.unlocked.now.key) c.args.unlocked.now.id c.frames.number (frame_of c.in-Some.frame) _ c.open_frame.new.out c.if-not-open_frame.ensures.value (part_long c.args.unlocked.now c.args.bytes.now c.frames.out c.frames.rest.now [] c.frames.number c.frames.at (frame_of c.in-Some.frame) c.frames.invariant c.in-Some.ensures.value))
+      (text_found (key_of c.args.unlocked.now.cipher.key) c.args.unlocked.now.cipher.id c.frames.number (frame_of c.in-Some.frame) _ c.open_frame.new.out c.if-not-open_frame.ensures.value (part_long c.args.unlocked.now c.args.bytes.now c.frames.out c.frames.rest.now [] c.frames.number c.frames.at (frame_of c.in-Some.frame) c.frames.invariant c.in-Some.ensures.value))
       c.if-frame.true (omega arith) h m;
   within = omega (arith, fits c.args.unlocked.now c.args.bytes.now c.frames.out c.frames.rest.now [] c.frames.number c.frames.at (frame_of c.in-Some.frame) c.frames.invariant c.in-Some.ensures.value);
 }
@@ -29,7 +29,7 @@ frames-smaller c = omega (arith, (taken c.args.unlocked.now c.args.bytes.now c.f
 pub frames-preserved : goal.frames-preserved
 frames-preserved c =
     going_more c.args.unlocked.now c.args.bytes.now c.frames.out c.frames.rest.now c.open_frame.new.out c.frames.number c.frames.at (frame_of c.in-Some.frame) c.frames.invariant c.in-Some.ensures.value _ _
-    (text_found (key_of c.args.unlocked.now.key) c.args.unlocked.now.id c.frames.number (frame_of c.in-Some.frame) _ c.open_frame.new.out c.if-not-open_frame.ensures.value (part_long c.args.unlocked.now c.args.bytes.now c.frames.out c.frames.rest.now [] c.frames.number c.frames.at (frame_of c.in-Some.frame) c.frames.invariant c.in-Some.ensures.value))
+    (text_found (key_of c.args.unlocked.now.cipher.key) c.args.unlocked.now.cipher.id c.frames.number (frame_of c.in-Some.frame) _ c.open_frame.new.out c.if-not-open_frame.ensures.value (part_long c.args.unlocked.now c.args.bytes.now c.frames.out c.frames.rest.now [] c.frames.number c.frames.at (frame_of c.in-Some.frame) c.frames.invariant c.in-Some.ensures.value))
     c.if-frame.false (omega arith) (omega arith) (omega arith)
 
 pub returns-in_default : goal.returns-in_default
@@ -42,7 +42,7 @@ pub returns-then-not-open_frame : goal.returns-then-not-open_frame
 returns-then-not-open_frame c = record {
   value = λ h m.
       step_wrong c.args.unlocked.now h m c.frames.number (take c.frames.at c.frames.out) c.frames.rest.now (frame_of c.in-Some.frame) c.in-Some.ensures.value
-      (text_lacks (key_of c.args.unlocked.now.key) c.args.unlocked.now.id c.frames.number (frame_of c.in-Some.frame) _ c.open_frame.new.out c.if-not-open_frame.ensures.value (part_long c.args.unlocked.now c.args.bytes.now c.frames.out c.frames.rest.now [] c.frames.number c.frames.at (frame_of c.in-Some.frame) c.frames.invariant c.in-Some.ensures.value))
+      (text_lacks (key_of c.args.unlocked.now.cipher.key) c.args.unlocked.now.cipher.id c.frames.number (frame_of c.in-Some.frame) _ c.open_frame.new.out c.if-not-open_frame.ensures.value (part_long c.args.unlocked.now c.args.bytes.now c.frames.out c.frames.rest.now [] c.frames.number c.frames.at (frame_of c.in-Some.frame) c.frames.invariant c.in-Some.ensures.value))
       ∙ c.frames.invariant.goes h m;
   within = omega arith;
 }
@@ -52,7 +52,7 @@ returns-else-is_empty c = record {
   value = λ h m.
       sym (pick_false _ _ _ (sym c.if-is_empty.ensures))
       ∙ going_final c.args.unlocked.now c.args.bytes.now c.frames.out c.frames.rest.now c.open_frame.new.out c.frames.number c.frames.at (frame_of c.in-Some.frame) c.frames.invariant c.in-Some.ensures.value (c.frames.at + length c.in-Some.frame.ciphertext.now - c.frames.at) (c.frames.at + length c.in-Some.frame.ciphertext.now)
-      (text_found (key_of c.args.unlocked.now.key) c.args.unlocked.now.id c.frames.number (frame_of c.in-Some.frame) _ c.open_frame.new.out c.if-not-open_frame.ensures.value (part_long c.args.unlocked.now c.args.bytes.now c.frames.out c.frames.rest.now [] c.frames.number c.frames.at (frame_of c.in-Some.frame) c.frames.invariant c.in-Some.ensures.value))
+      (text_found (key_of c.args.unlocked.now.cipher.key) c.args.unlocked.now.cipher.id c.frames.number (frame_of c.in-Some.frame) _ c.open_frame.new.out c.if-not-open_frame.ensures.value (part_long c.args.unlocked.now c.args.bytes.now c.frames.out c.frames.rest.now [] c.frames.number c.frames.at (frame_of c.in-Some.frame) c.frames.invariant c.in-Some.ensures.value))
       c.if-frame.true (omega arith) h m;
   within = omega arith;
 }

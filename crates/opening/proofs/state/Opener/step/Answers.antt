@@ -20,16 +20,16 @@ pub returns-then-out-len : goal.returns-then-out-len
 returns-then-out-len c = record { value = out_short c.args.self.now c.args.bytes.now c.args.at_end c.args.out.now (frame_of c.in-Some.frame) c.if-self.false c.in-Some.ensures.value c.if-out-len.true }
 
 pub returns-then-not-open_frame : goal.returns-then-not-open_frame
-returns-then-not-open_frame c = record { value = wrong_tag c.args.self.now c.args.bytes.now c.args.at_end c.args.out.now (frame_of c.in-Some.frame) c.if-self.false c.in-Some.ensures.value (text_lacks (key_of c.args.self.now.unlocked.key) c.args.self.now.unlocked.id c.args.self.now.number (frame_of c.in-Some.frame) _ c.open_frame.new.out c.if-not-open_frame.ensures.value (part_long c.args.out.now (length c.in-Some.frame.ciphertext.now) c.if-out-len.false)) }
+returns-then-not-open_frame c = record { value = wrong_tag c.args.self.now c.args.bytes.now c.args.at_end c.args.out.now (frame_of c.in-Some.frame) c.if-self.false c.in-Some.ensures.value (text_lacks (key_of c.args.self.now.unlocked.cipher.key) c.args.self.now.unlocked.cipher.id c.args.self.now.number (frame_of c.in-Some.frame) _ c.open_frame.new.out c.if-not-open_frame.ensures.value (part_long c.args.out.now (length c.in-Some.frame.ciphertext.now) c.if-out-len.false)) }
 
 pub overflow_sub-text : goal.overflow_sub-text
 overflow_sub-text c = rest_fits c.args.self.now c.args.bytes.now c.args.at_end c.args.out.now (frame_of c.in-Some.frame) c.if-self.false c.in-Some.ensures.value
 
 pub returns-then-frame : goal.returns-then-frame
-returns-then-frame c = record { value = final c.args.self.now c.args.bytes.now c.args.at_end c.args.out.now (frame_of c.in-Some.frame) c.if-self.false c.in-Some.ensures.value (all_bytes_of c.args.bytes.now (λ i. omega (arith, c.type_inv.bytes i))) c.open_frame.new.out (text_found (key_of c.args.self.now.unlocked.key) c.args.self.now.unlocked.id c.args.self.now.number (frame_of c.in-Some.frame) _ c.open_frame.new.out c.if-not-open_frame.ensures.value (part_long c.args.out.now (length c.in-Some.frame.ciphertext.now) c.if-out-len.false)) (omega arith) c.if-out-len.false c.if-frame.true }
+returns-then-frame c = record { value = final c.args.self.now c.args.bytes.now c.args.at_end c.args.out.now (frame_of c.in-Some.frame) c.if-self.false c.in-Some.ensures.value (all_bytes_of c.args.bytes.now (λ i. omega (arith, c.type_inv.bytes i))) c.open_frame.new.out (text_found (key_of c.args.self.now.unlocked.cipher.key) c.args.self.now.unlocked.cipher.id c.args.self.now.number (frame_of c.in-Some.frame) _ c.open_frame.new.out c.if-not-open_frame.ensures.value (part_long c.args.out.now (length c.in-Some.frame.ciphertext.now) c.if-out-len.false)) (omega arith) c.if-out-len.false c.if-frame.true }
 
 pub overflow_add-self-2 : goal.overflow_add-self-2
 overflow_add-self-2 c = omega (arith, number_fits c.args.self.now c.args.bytes.now c.args.at_end c.args.out.now (frame_of c.in-Some.frame) c.if-self.false c.in-Some.ensures.value c.if-frame.false)
 
 pub returns : goal.returns
-returns c = record { value = regular c.args.self.now c.args.bytes.now c.args.at_end c.args.out.now (frame_of c.in-Some.frame) c.if-self.false c.in-Some.ensures.value (all_bytes_of c.args.bytes.now (λ i. omega (arith, c.type_inv.bytes i))) c.open_frame.new.out (text_found (key_of c.args.self.now.unlocked.key) c.args.self.now.unlocked.id c.args.self.now.number (frame_of c.in-Some.frame) _ c.open_frame.new.out c.if-not-open_frame.ensures.value (part_long c.args.out.now (length c.in-Some.frame.ciphertext.now) c.if-out-len.false)) (omega arith) c.if-out-len.false c.if-frame.false }
+returns c = record { value = regular c.args.self.now c.args.bytes.now c.args.at_end c.args.out.now (frame_of c.in-Some.frame) c.if-self.false c.in-Some.ensures.value (all_bytes_of c.args.bytes.now (λ i. omega (arith, c.type_inv.bytes i))) c.open_frame.new.out (text_found (key_of c.args.self.now.unlocked.cipher.key) c.args.self.now.unlocked.cipher.id c.args.self.now.number (frame_of c.in-Some.frame) _ c.open_frame.new.out c.if-not-open_frame.ensures.value (part_long c.args.out.now (length c.in-Some.frame.ciphertext.now) c.if-out-len.false)) (omega arith) c.if-out-len.false c.if-frame.false }
