@@ -28,7 +28,9 @@ fn open_message<'m>(
     ensures value { answer result out.new ≡ opening key.now message.now }
     ensures within { text_len result ≤ length out.old }
 {
-    let read = read_header(message).ok_or(OpenRefusal::NoHeader)?;
+    let Some(read) = read_header(message) else {
+        return Err(OpenRefusal::NoHeader);
+    };
     let mut unlocked = unlock(key, message, read)?;
     let opened = open_frames(&unlocked, read.rest, out);
     unlocked.cipher.wipe();

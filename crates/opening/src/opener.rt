@@ -65,10 +65,10 @@ impl Opener {
         if out.len() < len {
             return Err(OpenRefusal::OutTooShort);
         }
-        self.unlocked
-            .cipher
-            .open_frame(self.number, frame, &mut out[0..len])
-            .map_err(|_| OpenRefusal::FrameTag(self.number))?;
+        let cipher = &self.unlocked.cipher;
+        let Ok(()) = cipher.open_frame(self.number, frame, &mut out[0..len]) else {
+            return Err(OpenRefusal::FrameTag(self.number));
+        };
         let text = FrameText {
             len,
             taken: bytes.len() - frame.rest.len(),

@@ -20,19 +20,22 @@ pub fn open_frames(unlocked: &Unlocked, bytes: &[u8], out: &mut [u8]) -> Result<
             break 'frames OpenRefusal::Frame(number);
         };
         let end = at + frame.ciphertext.len();
-        let opened = unlocked.cipher.open_frame(number, frame, &mut out[at..end]);
-        if opened.is_err() {
+        let Ok(()) = unlocked.cipher.open_frame(number, frame, &mut out[at..end]) else {
             break 'frames OpenRefusal::FrameTag(number);
-        }
-        if frame.kind == FrameKind::Final {
-            if frame.rest.is_empty() {
-                return Ok(end);
+        };
+        match frame.kind {
+            FrameKind::Regular => {
+                rest = frame.rest;
+                at = end;
+                number += 1;
             }
-            break 'frames OpenRefusal::AfterFinal(number);
+            FrameKind::Final => {
+                if frame.rest.is_empty() {
+                    return Ok(end);
+                }
+                break 'frames OpenRefusal::AfterFinal(number);
+            }
         }
-        rest = frame.rest;
-        at = end;
-        number += 1;
     };
     Err(refusal)
 }
