@@ -79,14 +79,14 @@ by_parts bs =
     and_then (start_part bs) (λ i. and_then (read_context i.rest) (λ c. and_then (cut_counted cut_data_key c.rest) (λ h. and_then (frame_length_part h.rest) (λ f.
     and_then (cut 32 f.rest) (λ k. and_then (cut 16 k.rest) (λ g. the_header i.front c.pairs h.entries f.value k.front g.front g.rest ∷ []))))))
 
-pub header_by_parts : (bs : List ℕ) → by_parts bs ≡ read_header bs
+pub header_by_parts : (bs : List ℕ) → read_header bs ≡ by_parts bs
 unfolding read_header
 header_by_parts bs =
-    start_step bs _ ∙ and_then_ext (cut 3 bs) _ _ (λ v. ap (λ xs. guard (bytes_eq v.front (2 ∷ (4 ∷ (120 ∷ [])))) xs) (
+    sym (start_step bs _ ∙ and_then_ext (cut 3 bs) _ _ (λ v. ap (λ xs. guard (bytes_eq v.front (2 ∷ (4 ∷ (120 ∷ [])))) xs) (
     and_then_ext (cut 32 v.rest) _ _ (λ i. and_then_ext (read_context i.rest) _ _ (λ c.
     data_keys_step c.rest (λ h. and_then (frame_length_part h.rest) (λ f. and_then (cut 32 f.rest) (λ k. and_then (cut 16 k.rest) (λ g. the_header i.front c.pairs h.encrypted_data_keys f.value k.front g.front g.rest ∷ []))))
     ∙ and_then_ext (cut 2 c.rest) _ _ (λ n. ap (λ xs. guard (ltb 0 (of_bytes n.front)) xs) (
-    and_then_ext (read_data_keys (of_bytes n.front) n.rest) _ _ (λ h. frame_length_step h.rest _)))))))
+    and_then_ext (read_data_keys (of_bytes n.front) n.rest) _ _ (λ h. frame_length_step h.rest _))))))))
 
 -- how long what is cut is
 cut_long : (n : ℕ) (bs : List ℕ) (xs : List Cut) → cut n bs ≡ xs → First (λ c. length c.front ≡ n) xs

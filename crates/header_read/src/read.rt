@@ -67,6 +67,7 @@ fn cut_frame_length(bytes: &[u8]) -> Option<(u32, &[u8])>
 }
 
 // The header of a message, its tag, and what comes after, with no key; None if the message begins with no header.
+#[tactic(auto, using(crate::proofs::HeaderParts::header_by_parts), unfolding(octets::specs::Cut::and_then))]
 pub fn read_header(message: &[u8]) -> Option<ReadHeader<'_>>
     ensures value { header_reads result ≡ read_header message.now }
     ensures lengths { HasFixedLengths result }
