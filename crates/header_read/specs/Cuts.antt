@@ -5,9 +5,6 @@ use Rattle.octets.specs.Bytes.{of_bytes}
 use Rattle.octets.specs.Cut.{cut, and_then, guard}
 use Rattle.format.specs.Request as Rq
 use Rattle.format.specs.Reading.{cut_field}
-use Rattle.header.specs.Models.{pair, data_key}
-use Rattle.header.specs.declared.request.Pair.{Pair}
-use Rattle.header.specs.declared.request.EncryptedDataKey.{EncryptedDataKey}
 
 -- an entry at the front, and what comes after
 pub record CutEntry (A : Type 0) : Type 0 where
@@ -50,9 +47,3 @@ abbrev pub cut_data_key : List ℕ → List (CutEntry Rq.EncryptedDataKey)
 cut_data_key bs =
     and_then (cut_field bs) (λ p. and_then (cut_field p.rest) (λ i. and_then (cut_field i.rest) (λ w.
     record { entry = record { provider_id = p.front; provider_info = i.front; ciphertext = w.front }; rest = w.rest } ∷ [])))
-
-abbrev pub listed_pairs : ℕ → List ℕ → List Rq.Pair
-listed_pairs n bs = listed cut_pair n bs
-
-abbrev pub listed_data_keys : ℕ → List ℕ → List Rq.EncryptedDataKey
-listed_data_keys n bs = listed cut_data_key n bs

@@ -49,6 +49,7 @@ impl<'m, K: Kind<'m>> Entries<'m, K> {
     }
 
     // A count of two bytes, which isn't 0, and so many entries, and what comes after.
+    #[tactic(auto, using(octets::proofs::Cuts::number_some, octets::proofs::Cuts::number_none), unfolding(octets::specs::Cut::and_then, octets::specs::Cut::guard))]
     pub fn cut_counted(bytes: &'m [u8]) -> Option<(Entries<'m, K>, &'m [u8])>
         ensures value { entries_cut K.cut result ≡ cut_counted K.cut bytes.now }
     {

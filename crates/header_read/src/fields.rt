@@ -11,6 +11,7 @@ use header::{EncryptedDataKey, Pair};
 use octets::{cut, cut_number};
 
 // Two bytes of length and so many bytes, and what comes after.
+#[tactic(auto, using(octets::proofs::Cuts::number_some, octets::proofs::Cuts::number_none), unfolding(octets::specs::Cut::and_then))]
 pub fn cut_field(bytes: &[u8]) -> Option<(&[u8], &[u8])>
     ensures value { cuts result ≡ cut_field bytes.now }
 {

@@ -6,6 +6,8 @@
 mod entries;
 mod fields;
 mod read;
+#[cfg(test)]
+mod tests;
 mod types;
 
 pub use entries::{Entries, EntriesLeft, Kind};

@@ -19,6 +19,7 @@ fn names_rise(context: Context) -> bool
 }
 
 // the context, and what comes after: an empty field for no pair, or a field of a count and so many pairs, and no more
+#[tactic(auto, unfolding(octets::specs::Bits::pick, octets::specs::Cut::and_then, crate::specs::Cuts::listed))]
 fn cut_context(bytes: &[u8]) -> Option<(Context<'_>, &[u8])>
     ensures { context_reads result ≡ read_context bytes.now }
 {

@@ -2,19 +2,11 @@ use Rattle.std.proofs.Common.{sym, ap, ◌∙◌}
 use Rattle.std.proofs.lemmas.Bool.{and_left, and_right, and_from}
 use Rattle.octets.proofs.Cuts.{and_then_some, and_then_none}
 use Rattle.format.specs.Reading.{is_empty}
-use Rattle.header_read.specs.Cuts.{listed}
 use Rattle.header_read.specs.Parts.{context_reads}
-use Rattle.header_read.proofs.Steps.{guard_yes, guard_no, pick_yes}
+use Rattle.header_read.proofs.Steps.{guard_yes, guard_no}
 use Rattle.header_read.proofs.HeaderParts.{risen, context_read}
 use Rattle.header_read.proofs.read.cut_context.Goals as goal
 use Rattle.header_read.proofs.read.cut_context.Goals.{then-not-is_empty-via-then-not-is_empty, then-not-is_empty-via-else-not-is_empty+then-not-names_rise}
-
-pub returns-in_err-field : goal.returns-in_err-field
-returns-in_err-field c = ap context_reads c.from_residual.ensures ∙ and_then_none _ _ c.in_err-field.ensures.value
-
-pub returns-then-is_empty : goal.returns-then-is_empty
-unfolding listed
-returns-then-is_empty c = pick_yes _ _ _ c.if-is_empty.ensures ∙ and_then_some _ _ _ c.in_ok-field.ensures.value
 
 pub returns-in_err-context : goal.returns-in_err-context
 returns-in_err-context c =
