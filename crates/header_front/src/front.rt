@@ -21,7 +21,7 @@ pub fn header_front(bytes: &[u8]) -> HeaderFront
     if let Some(read) = read_header(bytes) {
         return HeaderFront::Whole(bytes.len() - read.rest.len());
     }
-    if settled(bytes) {
+    if settled(bytes).is_some() {
         return HeaderFront::Wrong;
     }
     HeaderFront::Short
