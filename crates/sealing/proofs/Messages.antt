@@ -1,5 +1,5 @@
 -- Messages in parts: the start and the frames, how long they are, and that sums of lengths don't wrap.
-use Rattle.std.proofs.Common.{◌≡◌, ℕ, suc, ◌+◌, ◌-◌, ◌*◌, ◌/◌, ◌<◌, ◌≤◌, true, List, [], ◌++◌, length, take, drop, sym, refl, ap, ◌∙◌, subst, ap₂, append_assoc, mul-le-mul_right, div-lt_iff_lt-mul, arith, length-append, length-drop, length-take-le}
+use Rattle.std.proofs.Common.{◌≡◌, ℕ, suc, ◌+◌, ◌-◌, ◌*◌, ◌/◌, ◌<◌, ◌≤◌, true, List, [], ◌++◌, length, take, drop, sym, refl, ap, ◌∙◌, subst, ap₂, append_assoc, div-lt_iff_lt-mul, arith, length-append, length-drop, length-take-le}
 use borrow.Rule.Slice.PartMut.{put_mid}
 use Rattle.std.proofs.lemmas.Bool.{and_parts, and_from, leb-true, ltb-true, le-leb, lt-ltb, cond-true}
 use Rattle.octets.specs.Splice.{Written}
@@ -22,9 +22,7 @@ use Rattle.header.proofs.Refusals.{header_passed}
 use Rattle.frames.specs.Cipher.{header_tag}
 use Rattle.sealing.specs.Whole.{sealed_message, start, frames_length}
 use Rattle.sealing.specs.Keys.{KeysFor}
-use Rattle.sealing.specs.Calls.{text_before}
 use Rattle.sealing.specs.declared.keys.Keys.{Keys}
-use Rattle.sealing.specs.declared.state.Sealer.{Sealer}
 
 -- a message is its start and its frames, and the start is a header and its tag
 pub message_is : (r : Rq.Request) → start r ++ frames (suc (length r.text)) (sealing_key r.key r.id) r.id r.frame_length 1 r.text ≡ sealed_message r
@@ -127,12 +125,3 @@ header_short h c e t =
     let i32 = p.id in
     let kf = keys.fits in
     omega arith
-
-product_short : (a b : ℕ) → a < 4294967296 → b < 4294967296 → a * b ≤ 18446744065119617025
-product_short a b p q = let m : a * b ≤ 4294967295 * b = mul-le-mul_right b (let l : a ≤ 4294967295 = omega arith in l) in omega arith
-
-pub text_before_short : (s : Sealer) → text_before s ≤ 18446744065119617025
-text_before_short s =
-    let few = s.few in
-    let fits = s.fits in
-    product_short (s.number - 1) s.frame_length (omega arith) (omega arith)
