@@ -6,7 +6,7 @@ use std::fs::File;
 use std::io::Read;
 use std::{fs, io};
 
-// One read, made again where a signal interrupts it.
+// One read, made again where a signal interrupts it; so many times at most, since nothing says that signals end.
 fn read_some<R: Read>(from: &mut R, buf: &mut [u8]) -> io::Result<usize>
     ensures bound { IfOk result (λ n. n ≤ length buf.new) }
     ensures bytes { IfOk result (λ n. Consumes (R.remaining from.old) (R.remaining from.new) (take n buf.new)) }

@@ -1,4 +1,4 @@
-use Rattle.std.proofs.Common.{rules, arith, ap}
+use Rattle.std.proofs.Common.{rules, arith}
 use Rattle.files.proofs.Parts.{take-copy_within}
 use Rattle.files.proofs.window.Window.take.Goals as goal
 
