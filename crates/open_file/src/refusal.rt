@@ -15,10 +15,9 @@ fn meaning(refusal: OpenRefusal) -> &'static str {
 }
 
 pub fn refused(refusal: OpenRefusal) -> Problem<'static> {
-    let frame = refusal.frame();
     Problem::Refused {
         number: refusal.number(),
-        frame: (frame != 0).then_some(frame),
+        frame: refusal.at_frame(),
         why: meaning(refusal),
     }
 }

@@ -1,14 +1,11 @@
 // The message of a file, written frame by frame into OUTPUT.
-ghost use Rattle.std.specs.Prelude.{◌≤◌};
-
 use commands::limits::MAX_TEXT;
 use commands::problem::Problem;
 use commands::seal::SealCommand;
 use files::window::Window;
+use frames::FrameKind;
 use header::HeaderRequest;
-use programs::{
-    FINAL_BESIDE, FRAME_ROOM, FileResult, Output, REGULAR_BESIDE, START_ROOM, TEXT_ROOM,
-};
+use programs::{FRAME_ROOM, FileResult, Output, START_ROOM, TEXT_ROOM};
 use sealing::{FrameRefusal, Sealer};
 use std::fs::File;
 use std::io::Write;
@@ -33,28 +30,15 @@ impl Sealed {
     }
 }
 
-#[derive(Clone, Copy, PartialEq)]
-enum FrameKind {
-    Regular,
-    Final,
-}
-
-impl FrameKind {
-    // What a frame has beside its text.
-    fn beside(self) -> usize
-        ensures { result ≤ FINAL_BESIDE }
-    {
-        match self {
-            FrameKind::Regular => REGULAR_BESIDE,
-            FrameKind::Final => FINAL_BESIDE,
-        }
-    }
-
-    fn seal(self, sealer: &mut Sealer, text: &[u8], out: &mut [u8]) -> Result<(), FrameRefusal> {
-        match self {
-            FrameKind::Regular => sealer.seal_regular(text, out),
-            FrameKind::Final => sealer.seal_final(text, out),
-        }
+fn seal_frame(
+    sealer: &mut Sealer,
+    kind: FrameKind,
+    text: &[u8],
+    out: &mut [u8],
+) -> Result<(), FrameRefusal> {
+    match kind {
+        FrameKind::Regular => sealer.seal_regular(text, out),
+        FrameKind::Final => sealer.seal_final(text, out),
     }
 }
 
@@ -162,10 +146,9 @@ impl<'a> Frames<'a> {
         let text = self.text.held().get(..len).ok_or(Problem::FrameLength)?;
         let out = self
             .frame
-            .get_mut(..text.len() + kind.beside())
+            .get_mut(..text.len() + kind.overhead())
             .ok_or(Problem::FrameLength)?;
-        kind.seal(&mut self.sealer, text, out)
-            .map_err(|_| Problem::FrameLength)?;
+        seal_frame(&mut self.sealer, kind, text, out).map_err(|_| Problem::FrameLength)?;
         output.write_all(out).writing(self.command.output)?;
         self.sealed.add(text.len(), out.len());
         self.text.take(len);
