@@ -1,4 +1,4 @@
-// Fields, and the lists that a header has of what is made of fields.
+// Fields, and the lists in a header: its pairs and its encrypted data keys, which are so many fields each.
 ghost use Rattle.std.specs.Prelude.{◌≡◌, ◌≤◌, ◌++◌, ℕ, Bool, true, List, length};
 ghost use Rattle.std.specs.List.{flat_map, list_all};
 ghost use Rattle.octets.specs.Bytes.{to_bytes};
@@ -31,7 +31,7 @@ fn put_field(to: &mut Writer, bytes: &[u8]) -> Option<()>
     to.put(bytes)
 }
 
-// What a header has a list of.
+// An element of such a list.
 pub trait Part {
     // the bytes of its fields, and whether each field is short enough
     ghost bytes: { Self → List ℕ };
@@ -80,7 +80,7 @@ impl Part for EncryptedDataKey<'_, '_, '_> {
     }
 }
 
-// how many bytes all parts have; None where a field is too long, or no number is so large
+// how many bytes all parts have; None where a field is too long, or a usize cannot say it
 pub fn parts_len<P: Part>(parts: &[P]) -> Option<usize>
     ensures { result ≡ short_length_if (list_all P.short parts.now) (flat_map P.bytes parts.now) }
 {
