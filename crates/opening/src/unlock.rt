@@ -11,6 +11,7 @@ ghost use Rattle.opening.specs.Unlocked.{Unlocks};
 use crate::refusal::OpenRefusal;
 use frames::MessageCipher;
 use gcm::Key;
+use header::array_32;
 use header_read::ReadHeader;
 use hkdf::{MessageKeys, message_keys};
 use octets::equal;
@@ -19,15 +20,6 @@ use octets::equal;
 pub struct Unlocked {
     pub cipher: MessageCipher,
     pub frame_length: u32,
-}
-
-fn copy_32(bytes: &[u8]) -> [u8; 32]
-    requires { length bytes.now ≡ 32 }
-    ensures { result ≡ bytes.now }
-{
-    let mut all = [0; 32];
-    all.copy_from_slice(bytes);
-    all
 }
 
 // Whether the tag is that of the bytes that the header was read from.
@@ -46,7 +38,7 @@ pub fn unlock(key: &[u8; 32], bytes: &[u8], read: ReadHeader) -> Result<Unlocked
     ensures { Unlocks key.now (header_in read.entry.header) read.entry.tag.now result }
 {
     let header = read.header;
-    let id = copy_32(header.id);
+    let id = array_32(header.id).unwrap();
     let MessageKeys {
         mut sealing_key,
         commitment,
