@@ -1,16 +1,16 @@
 -- A context and a whole header are their parts, read one after another.
-use Rattle.std.proofs.Common.{◌≡◌, ℕ, Bool, true, false, ◌&&◌, ltb, List, [], ◌∷◌, length, take, drop, sym, refl, ap, ◌∙◌, subst, ⊎_elim, arith, length-take-le}
-use Rattle.std.proofs.lemmas.Bool.{cases_lt}
+use Rattle.std.proofs.Common.{◌≡◌, ℕ, Bool, true, false, ◌&&◌, ltb, List, [], ◌∷◌, length, sym, refl, ap, ◌∙◌}
 use Rattle.octets.specs.Bytes.{bytes_eq, of_bytes}
 use Rattle.octets.specs.Cut.{Cut, cut, and_then, guard, CutNumber}
-use Rattle.octets.proofs.Cuts.{the_cut, cut_some, cut_none, and_then_some, and_then_ext, and_then_assoc, guard-and_then, the_number}
+use Rattle.octets.proofs.Cuts.{the_cut, cut_parts, and_then_some, and_then_ext, and_then_assoc, guard-and_then, the_number}
 use Rattle.format.specs.Request as Rq
 use Rattle.format.specs.Request.{rising}
 use Rattle.format.specs.Reading as Rd
 use Rattle.format.specs.Reading.{ReadPairs, ReadDataKeys, is_empty, cut_field, read_pairs, read_context, read_data_keys, read_header}
+use Rattle.format.proofs.Steps.{and_then_gave, guard_gave}
 use Rattle.header_read.specs.Cuts.{CutEntries, listed, skipped, cut_entries, cut_counted, cut_pair, cut_data_key}
 use Rattle.header_read.specs.Parts.{start_part, frame_length_part}
-use Rattle.header_read.proofs.Steps.{pick_no, First, first_and_then, first_guard}
+use Rattle.header_read.proofs.Steps.{pick_no}
 use Rattle.header_read.proofs.Listing.{counted, pairs_made, pairs_read, data_keys_made, data_keys_read}
 
 -- a context is a count of pairs whose names rise, and nothing behind them
@@ -88,16 +88,9 @@ header_by_parts bs =
     ∙ and_then_ext (cut 2 c.rest) _ _ (λ n. ap (λ xs. guard (ltb 0 (of_bytes n.front)) xs) (
     and_then_ext (read_data_keys (of_bytes n.front) n.rest) _ _ (λ h. frame_length_step h.rest _))))))))
 
--- how long what is cut is
-cut_long : (n : ℕ) (bs : List ℕ) (xs : List Cut) → cut n bs ≡ xs → First (λ c. length c.front ≡ n) xs
-cut_long n bs [] e = tt
-cut_long n bs (c ∷ cs) e = ⊎_elim (λ h. absurd (let z : ◌≡◌ {A = List Cut} [] (c ∷ cs) = cut_none n bs h ∙ e in let y : ◌≡◌ {A = ℕ} 0 1 = cc in omega arith)) (λ h. subst (First (λ d. length d.front ≡ n)) (cut_some n bs (take n bs) (drop n bs) h refl refl ∙ e) (length-take-le n bs h)) (cases_lt (length bs) n)
-
+-- how long the id is
 pub id_long : (bs : List ℕ) (c : Cut) → (c ∷ []) ≡ start_part bs → length c.front ≡ 32
 id_long bs c e =
-    subst (First (λ d. length d.front ≡ 32)) (sym e)
-    (first_and_then (λ v. Unit {0}) (λ d. length d.front ≡ 32) (cut 3 bs) (λ v. guard (bytes_eq v.front (2 ∷ (4 ∷ (120 ∷ [])))) (cut 32 v.rest)) (any (cut 3 bs)) (λ v u. first_guard (λ d. length d.front ≡ 32) _ (cut 32 v.rest) (cut_long 32 v.rest (cut 32 v.rest) refl)))
-  where
-    any : (xs : List Cut) → First (λ v. Unit {0}) xs
-    any [] = tt
-    any (x ∷ xs) = tt
+    let x = and_then_gave (cut 3 bs) (λ v. guard (bytes_eq v.front (2 ∷ (4 ∷ (120 ∷ [])))) (cut 32 v.rest)) c [] (sym e) in
+    let g = guard_gave (bytes_eq x.one.front (2 ∷ (4 ∷ (120 ∷ [])))) (cut 32 x.one.rest) c [] x.then in
+    (cut_parts 32 x.one.rest c.front c.rest (sym g.1)).long

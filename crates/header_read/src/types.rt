@@ -33,6 +33,7 @@ impl<'m> Entries<'m, DataKeyKind> {
 }
 
 // a header; id is the message id
+// its parts, and the tag, are slices in the library's interface: callers compare them with slices and lend them on as such
 #[derive(Clone, Copy)]
 pub struct Header<'m> {
     pub id: &'m [u8],
