@@ -7,7 +7,8 @@ ghost use Rattle.header_read.specs.Cursor.{entries_cut, entries_left, taken};
 use octets::cut_number;
 use std::marker::PhantomData;
 
-// A kind of entry, cut off the front of lent bytes.
+// A kind of entry, cut off the front of lent bytes. Lists name the kind and not the entry: a list whose type names the entry's
+// lifetimes gets no proof where it is copied.
 pub trait Kind<'m> {
     type Entry: Copy;
 
