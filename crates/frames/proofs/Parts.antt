@@ -1,40 +1,28 @@
 -- How a frame's parts lie one after another, and how long it is.
 use Rattle.std.proofs.Common.{◌≡◌, ℕ, ◌/◌, ◌%◌, ◌<◌, ◌≤◌, Bool, List, [], ◌∷◌, ◌++◌, length, sym, refl, ap, ◌∙◌, ap₂, append_assoc, arith, length-append}
+use Rattle.std.specs.Prelude.{Some, None, Option, IsSome, ⊤}
+use Rattle.std.specs.Borrow.{MutBor}
 use Rattle.octets.specs.Bits.{pick}
 use Rattle.octets.specs.Bytes.{to_bytes}
 use Rattle.octets.specs.Splice.{spliced}
+use Rattle.octets.specs.declared.writer.Writer.{Writer}
+use Rattle.octets.specs.Writing.{Starts, Wrote, Writes}
 use Rattle.octets.proofs.Numbers.{length-to_bytes}
+use Rattle.gcm.specs.Gcm.{Sealed}
+use Rattle.gcm.specs.Calls.{SealedAs, Opens}
 use Rattle.format.specs.Request.{end_marker}
 use Rattle.format.specs.Piece.{frame_aad, frame_bytes, final_bytes, regular_label, final_label}
 use Rattle.frames.specs.Cipher.{sealed, unsealed}
-use Rattle.gcm.specs.Gcm.{Sealed}
-use Rattle.gcm.specs.Calls.{SealedAs, Opens}
-use Rattle.std.specs.Prelude.{Some, None, Option, IsSome, ⊤}
-use Rattle.std.specs.Borrow.{MutBor}
-use Rattle.octets.specs.declared.writer.Writer.{Writer}
-use Rattle.octets.specs.Writing.{Starts, Wrote, Writes}
 use Rattle.frames.specs.Kind.{is_final, aad_length, front_length}
 use Rattle.frames.specs.Frame.{regular_frame, final_frame, frame_front, sealed_frame, OpensFrame}
 use Rattle.frames.specs.declared.frame.FrameKind.{FrameKind}
 use Rattle.frames.specs.declared.frame.FrameKind.TheVariants.{Regular, Final}
 
--- a number below 2^32 in four and in twelve bytes
-abbrev pub four : ℕ → List ℕ
-four n = n / 16777216 % 256 ∷ (n / 65536 % 256 ∷ (n / 256 % 256 ∷ (n % 256 ∷ [])))
-
-pub four_is : (n : ℕ) → four n ≡ to_bytes 4 n
+-- a number below 2^32 in twelve bytes
+pub nonce_is : (n : ℕ) → n < 4294967296
+    → 0 ∷ (0 ∷ (0 ∷ (0 ∷ (0 ∷ (0 ∷ (0 ∷ (0 ∷ (n / 16777216 % 256 ∷ (n / 65536 % 256 ∷ (n / 256 % 256 ∷ (n % 256 ∷ []))))))))))) ≡ to_bytes 12 n
 unfolding to_bytes
-four_is n =
-    let b : n / 65536 ≡ n / 256 / 256 = omega arith in
-    let c : n / 16777216 ≡ n / 256 / 256 / 256 = omega arith in
-    rw (b, c) refl
-
-abbrev pub twelve : ℕ → List ℕ
-twelve n = 0 ∷ (0 ∷ (0 ∷ (0 ∷ (0 ∷ (0 ∷ (0 ∷ (0 ∷ four n)))))))
-
-pub twelve_is : (n : ℕ) → n < 4294967296 → twelve n ≡ to_bytes 12 n
-unfolding to_bytes
-twelve_is n h =
+nonce_is n h =
     let b : n / 65536 ≡ n / 256 / 256 = omega arith in
     let c : n / 16777216 ≡ n / 256 / 256 / 256 = omega arith in
     let z : n / 256 / 256 / 256 / 256 ≡ 0 = omega arith in
@@ -70,6 +58,7 @@ opens_frame key id nonce aad ciphertext tag rest old out n last r p q o = record
   holds = o.holds;
 }
 
+-- how long additional data and fronts are
 pub length_aad : (kind : FrameKind) (id : List ℕ) (n k : ℕ) → length id ≡ 32 → length (frame_aad id (is_final kind) n k) ≡ aad_length kind
 unfolding pick regular_label final_label
 length_aad Regular id n k l =
