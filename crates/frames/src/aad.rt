@@ -31,8 +31,8 @@ impl FrameKind {
     }
 
     // How long the additional data is.
-    pub(crate) fn aad_len(self) -> usize
-        ensures { result ≡ aad_length self }
+    pub fn aad_len(self) -> usize
+        ensures value { result ≡ aad_length self }
     {
         match self {
             FrameKind::Regular => 72,
@@ -51,9 +51,9 @@ fn write_aad(kind: FrameKind, id: &[u8; 32], number: u32, len: usize, to: &mut W
     to.put_number(len as u64)
 }
 
-// The same from the front of enough bytes on.
+// The same in the first bytes, as many as its kind says.
 pub fn frame_aad(kind: FrameKind, id: &[u8; 32], number: u32, len: usize) -> [u8; MAX_AAD]
-    ensures { take (aad_length kind) result ≡ frame_aad id.now (is_final kind) number len }
+    ensures value { take (aad_length kind) result ≡ frame_aad id.now (is_final kind) number len }
 {
     let mut aad = [0; MAX_AAD];
     write_aad(kind, id, number, len, &mut Writer::new(&mut aad)).unwrap();

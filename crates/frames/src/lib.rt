@@ -8,7 +8,7 @@ mod cipher;
 mod frame;
 mod next;
 
-pub use aad::frame_nonce;
+pub use aad::{frame_aad, frame_nonce};
 pub use cipher::MessageCipher;
 pub use frame::{END_MARKER, Frame, FrameKind, KEY_LENGTH, TAG_LENGTH, WrongLength};
 pub use next::read_frame;

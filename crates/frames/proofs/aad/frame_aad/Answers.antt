@@ -11,5 +11,8 @@ unwrap-requires c =
 pub returns : goal.returns
 returns c =
     let w = rw c.unwrap.ensures at c.write_aad.ensures in
-    ap (take (aad_length c.args.kind)) (lender_holds _ _ _ _ _ c.new.ensures.value w (search rules))
-    ∙ take_at _ _ _ (length_aad c.args.kind c.args.id.now c.args.number c.args.len c.told-id)
+    record {
+      value =
+          ap (take (aad_length c.args.kind)) (lender_holds _ _ _ _ _ c.new.ensures.value w (search rules))
+          ∙ take_at _ _ _ (length_aad c.args.kind c.args.id.now c.args.number c.args.len c.told-id);
+    }

@@ -8,5 +8,5 @@ pub returns : goal.returns
 returns c = record {
   value =
       opens_frame (key_of c.args.self.now.key) c.args.self.now.id _ _ c.args.frame.ciphertext.now c.args.frame.tag c.args.frame.rest.now _ _ c.args.number _ _ c.frame_nonce-nonce.ensures.value
-      (ap (λ k. take k c.frame_aad-aad.result) c.aad_len.ensures ∙ c.frame_aad-aad.ensures) c.open.ensures.value;
+      (ap (λ k. take k c.frame_aad-aad.result) c.aad_len.ensures.value ∙ c.frame_aad-aad.ensures.value) c.open.ensures.value;
 }

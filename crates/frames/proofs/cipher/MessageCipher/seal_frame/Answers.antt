@@ -15,4 +15,4 @@ returns-clause-value c =
     let w = rw c.unwrap.ensures at c.write_front.ensures in
     let s = rw c.unwrap-tag.ensures at c.seal.ensures.value in
     frame_in_parts c.args.kind (key_of c.args.self.now.key) c.args.self.now.id c.args.text.now _ _ _ _ _ _ _ c.args.number c.frame_nonce.ensures.value
-    (ap (λ k. take k c.frame_aad-aad.result) c.aad_len.ensures ∙ c.frame_aad-aad.ensures) s (omega arith) (lender_holds _ _ _ _ _ c.new.ensures.value w (search rules) ∙ spliced_all _ _ (omega arith)) c.copy_from_slice.ensures.after
+    (ap (λ k. take k c.frame_aad-aad.result) c.aad_len.ensures.value ∙ c.frame_aad-aad.ensures.value) s (omega arith) (lender_holds _ _ _ _ _ c.new.ensures.value w (search rules) ∙ spliced_all _ _ (omega arith)) c.copy_from_slice.ensures.after
