@@ -2,6 +2,7 @@
 use commands::problem::Problem;
 use opening::OpenRefusal;
 
+// The words are this program's, so they are a table here and no Display of the library's type.
 fn meaning(refusal: OpenRefusal) -> &'static str {
     match refusal {
         OpenRefusal::OutTooShort => "the frame's text doesn't fit",

@@ -6,6 +6,7 @@ ghost use Rattle.commands.specs.declared.problem.Action.TheVariants.{Read, Write
 use commands::problem::{Action, Problem};
 use std::io;
 
+// A method for each action: `.reading(path)?` says more where it is called than an action that is passed.
 pub trait FileResult<T> {
     fn reading<'a>(self, path: &'a str) -> Result<T, Problem<'a>>;
 

@@ -24,6 +24,7 @@ pub trait Tool {
 
 // The whole program: whatever it can't do is one line on standard error.
 pub fn run_tool<T: Tool>(rt: HostRuntime) -> ExitCode {
+    // A problem may name one of the words, which have to outlive it, so each of the two parts complains.
     let words = match words(&rt) {
         Ok(words) => words,
         Err(problem) => return complain::<T>(&rt, problem),
