@@ -7,6 +7,7 @@ use Rattle.octets.specs.Bits.{bits_xor}
 use Rattle.octets.specs.Bytes.{take, drop, repeat, of_bytes}
 use Rattle.ghash.specs.Field.{product}
 use Rattle.ghash.specs.Ghash.{ghash, zero_padded}
+use Rattle.octets.proofs.Chunks.{chunk_at}
 use Rattle.octets.proofs.Lists.{take_is, drop_is, repeat_is}
 
 pub ghash_done : (h a : ℕ) (bs : List ℕ) → ghash zero h a bs ≡ a
@@ -22,10 +23,7 @@ drop_drops m n k s e = drop_is m (drop n s) ∙ (ap (λ ys. dropN m ys) (drop_is
 
 -- a block of those that a text is cut into
 block_at : (k i : ℕ) (s d : List ℕ) → i < k → get_or (first_chunks 16 k s) i d ≡ take 16 (drop (16 * i) s)
-block_at zero i s d h = absurd (omega arith)
-block_at (suc k) zero s d h = sym (take_is 16 (drop 0 s) ∙ ap (λ ys. takeN 16 ys) (drop_is 0 s))
-block_at (suc k) (suc i) s d h =
-    block_at k i (dropN 16 s) d (omega arith) ∙ ap (λ ys. take 16 ys) (ap (λ ys. drop (16 * i) ys) (sym (drop_is 16 s)) ∙ drop_drops (16 * i) 16 (16 * suc i) s (omega arith))
+block_at k i s d h = chunk_at 16 k i s d h ∙ sym (take_is 16 (drop (16 * i) s) ∙ ap (λ ys. takeN 16 ys) (drop_is (16 * i) s))
 
 pub ghash_turn : (n i h a b m r : ℕ) (s d : List ℕ) (blocks : List (List ℕ)) → i < n → blocks ≡ first_chunks 16 n s → m ≡ of_bytes (get_or blocks i d) → b ≡ product (bits_xor 128 a m) h
     → ghash (n - i) h a (drop (16 * i) s) ≡ r → ghash (n - (i + 1)) h b (drop (16 * (i + 1)) s) ≡ r

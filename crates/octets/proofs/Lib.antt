@@ -1,4 +1,5 @@
 pub mod Bits
+pub mod Chunks
 mod Compared
 pub mod Cuts
 pub mod Lists

@@ -1,5 +1,5 @@
 -- Bytes written one after another: two writes come to one, and where one lacks room, so does all that begins with it.
-use Rattle.std.proofs.Common.{◌≡◌, ℕ, ◌+◌, List, ◌++◌, length, ◌≤◌, Some, None, Option, sym, ap, ap₂, ◌∙◌, arith, length-append}
+use Rattle.std.proofs.Common.{◌≡◌, ℕ, List, ◌++◌, length, ◌≤◌, Some, None, Option, sym, ap, ap₂, ◌∙◌, arith, length-append}
 use Rattle.std.specs.Bool.{⊤}
 use Rattle.std.specs.Borrow.{MutBor}
 use Rattle.octets.specs.declared.writer.Writer.{Writer}

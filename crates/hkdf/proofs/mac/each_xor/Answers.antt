@@ -1,7 +1,7 @@
 use Rattle.std.proofs.Common.{◌≡◌, length, sym, ◌∙◌, arith, rules, length-set, take_all}
 use Rattle.octets.specs.Bits.{bits_xor}
 use Rattle.octets.proofs.Bits.{bits_xor_is}
-use Rattle.sha512.proofs.Chunks.{written_more, written_all}
+use Rattle.octets.proofs.Chunks.{written_more, written_all}
 use Rattle.hkdf.proofs.BlockKey.{each_xor_is}
 use Rattle.hkdf.proofs.mac.each_xor.Goals as goal
 

@@ -1,7 +1,8 @@
 use Rattle.std.proofs.Common.{◌/◌, map, sym, ap, ◌∙◌, arith, length-set}
 use Rattle.std.specs.Simd.{first_chunks}
 use Rattle.octets.specs.Bytes.{of_bytes}
-use Rattle.sha512.proofs.Chunks.{of_8, length-chunk, block_words_is, written_more, written_all}
+use Rattle.octets.proofs.Chunks.{of_8, length-chunk, written_more, written_all}
+use Rattle.sha512.proofs.Chunks.{block_words_is}
 use Rattle.sha512.proofs.blocks.block_words.Goals as goal
 
 pub loop-i-preserved : goal.loop-i-preserved

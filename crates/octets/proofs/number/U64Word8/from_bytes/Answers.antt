@@ -1,7 +1,6 @@
-use Rattle.std.proofs.Common.{ap, ◌∙◌, arith, take_all}
-use Rattle.octets.specs.Bytes.{of_bytes}
-use Rattle.octets.proofs.Numbers.{of_first_8}
+use Rattle.std.proofs.Common.{◌∙◌, arith}
+use Rattle.octets.proofs.Chunks.{of_8}
 use Rattle.octets.proofs.number.U64Word8.from_bytes.Goals as goal
 
 pub returns : goal.returns
-returns c = record { value = c.from_be_bytes.ensures ∙ of_first_8 c.args.bytes.now (omega arith) ∙ ap of_bytes (take_all 8 c.args.bytes.now (omega arith)) }
+returns c = record { value = c.from_be_bytes.ensures ∙ of_8 c.args.bytes.now (omega arith) }
