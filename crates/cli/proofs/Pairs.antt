@@ -1,104 +1,69 @@
 -- A pair in its place: where it goes, and that names in order stay so.
-use Rattle.std.proofs.Common.{◌≡◌, ℕ, zero, suc, ◌<◌, ◌≤◌, Bool, true, false, cond, ◌&&◌, List, [], ◌∷◌, map, length, get_or, Some, None, Option, sym, refl, ap, ◌∙◌, arith, add-one}
-use Rattle.std.proofs.lemmas.List.Sorted.{IsNonDecreasingBy-from_all_adjacent}
+use Rattle.std.proofs.Common.{◌≡◌, ℕ, zero, suc, ◌<◌, ◌≤◌, Bool, true, false, not, cond, ◌&&◌, List, [], ◌∷◌, map, length, get_or, Some, None, Option, eqb, sym, refl, ap, ◌∙◌, arith}
 use Rattle.std.proofs.lemmas.Bool.{cond-true, cond-false, and_parts, and_from}
 use Rattle.std.proofs.lemmas.Bool.Decides.{nat_tests}
-use Rattle.std.proofs.lemmas.Cmp.{same_from_slice_cmp, nat_list_cmp_total}
+use Rattle.std.proofs.lemmas.Cmp.{same_from_slice_cmp}
 use Rattle.std.specs.Cmp.Lexicographic.{slice_cmp}
-use Rattle.std.specs.List.{insert, HoldsAt}
-use Rattle.std.specs.List.Sorted.{IsNonDecreasingBy, IsPartitionPoint}
-use Rattle.std.specs.Option.{option_map}
-use Rattle.std.specs.Ordering.{nat_cmp, is_lt, is_eq, ordering_index, ordering_reverse}
-use Rattle.std.specs.declared.cmp.Ordering.{Ordering}
-use Rattle.std.specs.declared.cmp.Ordering.TheVariants.{Less, Equal, Greater}
+use Rattle.std.specs.List.{insert, AllWithin, HoldsAt}
+use Rattle.std.specs.Option.{option_map, unwrap_or, MatchOption}
+use Rattle.std.specs.Ordering.{nat_cmp, is_ge}
+use Rattle.std.specs.Str.{bytes_eq as texts_eq}
 use Rattle.octets.proofs.Order.{bytes_lt_total}
 use Rattle.octets.specs.Bytes.{bytes_lt, bytes_eq}
 use Rattle.cli.specs.declared.context.Pair.{Pair}
 use Rattle.cli.specs.Context.{NamedValue, pair_of, with_pair, rising}
 
--- the tests of names, by their order
-before : (xs ys : List ℕ) (o : Ordering) → o ≡ slice_cmp nat_cmp xs ys → is_lt o ≡ bytes_lt xs ys
+-- the definitions' tests of two names, by the library's
+at_least : (xs ys : List ℕ) → is_ge (slice_cmp nat_cmp xs ys) ≡ not (bytes_lt xs ys)
 unfolding bytes_lt
-before = same_from_slice_cmp nat_cmp is_lt bytes_lt refl (λ _ _. refl) (λ _ _. refl) (λ x y xs ys o h. grind (arith, nat_tests))
+at_least xs ys = same_from_slice_cmp nat_cmp is_ge (λ xs ys. not (bytes_lt xs ys)) refl (λ _ _. refl) (λ _ _. refl) (λ x y xs ys o h. grind (arith, nat_tests)) xs ys (slice_cmp nat_cmp xs ys) refl
 
-same : (xs ys : List ℕ) (o : Ordering) → o ≡ slice_cmp nat_cmp xs ys → is_eq o ≡ bytes_eq xs ys
+pub not_below : (xs ys : List ℕ) → is_ge (slice_cmp nat_cmp xs ys) ≡ true → bytes_lt xs ys ≡ false
+not_below xs ys e = let h = at_least xs ys in grind (arith, h, e)
+
+pub below : (xs ys : List ℕ) → is_ge (slice_cmp nat_cmp xs ys) ≡ false → bytes_lt xs ys ≡ true
+below xs ys e = let h = at_least xs ys in grind (arith, h, e)
+
+same_name : (xs ys : List ℕ) → texts_eq xs ys ≡ bytes_eq xs ys
 unfolding bytes_eq
-same = same_from_slice_cmp nat_cmp is_eq bytes_eq refl (λ _ _. refl) (λ _ _. refl) (λ x y xs ys o h. grind (arith, nat_tests))
+same_name [] [] = refl
+same_name [] (y ∷ ys) = refl
+same_name (x ∷ xs) [] = refl
+same_name (x ∷ xs) (y ∷ ys) = ap (λ b. eqb x y && b) (same_name xs ys)
 
--- what the order of two names says of the tests
-less_name : (xs ys : List ℕ) → slice_cmp nat_cmp xs ys ≡ Less → bytes_lt xs ys ≡ true
-less_name xs ys e = sym (before xs ys Less (sym e))
+-- the test of the name at a place, by the library's of the pair that was read there
+pub named : (qs : List Pair) (i : ℕ) (q : Pair) (n : List ℕ) (b : Bool) → q ≡ get_or qs i q → b ≡ texts_eq q.name.now n → bytes_eq (get_or qs i q).name.now n ≡ b
+named qs i q n b e f = ap (λ (r : Pair). bytes_eq r.name.now n) (sym e) ∙ sym (same_name q.name.now n) ∙ sym f
 
-equal_name : (xs ys : List ℕ) → slice_cmp nat_cmp xs ys ≡ Equal → (bytes_lt xs ys ≡ false) × (bytes_eq xs ys ≡ true)
-equal_name xs ys e = (sym (before xs ys Equal (sym e)), sym (same xs ys Equal (sym e)))
+-- where a pair goes: before the first whose name isn't below its own, or at the end
+abbrev pub IsPlace : List ℕ → List Pair → ℕ → Type 0
+IsPlace n qs i = (i ≤ length qs) × AllWithin (λ q. bytes_lt q.name.now n ≡ true) qs 0 i × (i < length qs → HoldsAt (λ q. bytes_lt q.name.now n ≡ false) qs i)
 
-greater_name : (xs ys : List ℕ) → slice_cmp nat_cmp xs ys ≡ Greater → (bytes_lt xs ys ≡ false) × (bytes_eq xs ys ≡ false)
-greater_name xs ys e = (sym (before xs ys Greater (sym e)), sym (same xs ys Greater (sym e)))
+pub first_or_end : (n : List ℕ) (qs : List Pair) (r : Option ℕ)
+    → MatchOption r (AllWithin (λ q. bytes_lt q.name.now n ≡ true) qs 0 (length qs)) (λ i. (i < length qs) × HoldsAt (λ q. bytes_lt q.name.now n ≡ false) qs i × AllWithin (λ q. bytes_lt q.name.now n ≡ true) qs 0 i)
+    → IsPlace n qs (unwrap_or r (length qs))
+first_or_end n qs None h = (omega arith, h, λ l. absurd (omega (arith, l)))
+first_or_end n qs (Some i) h = let l = h.0 in (omega (arith, l), h.2, λ _. h.1)
 
--- how a lent pair's name stands to a name
-abbrev pub name_order : List ℕ → Pair → Ordering
-name_order n q = slice_cmp nat_cmp q.name.now n
-
--- a name that is there is refused
-pub named_twice : (p : Pair) (qs : List Pair) (i : ℕ) → i < length qs → IsNonDecreasingBy (λ q. ordering_index (name_order p.name.now q)) qs → HoldsAt (λ q. name_order p.name.now q ≡ Equal) qs i → with_pair (pair_of p) (map pair_of qs) ≡ None
+-- a name that stands at its place is refused
+pub named_twice : (p : Pair) (qs : List Pair) (i : ℕ) (d : Pair) → IsPlace p.name.now qs i → i < length qs → bytes_eq (get_or qs i d).name.now p.name.now ≡ true → with_pair (pair_of p) (map pair_of qs) ≡ None
 unfolding with_pair
-named_twice p [] i h r e = absurd (omega arith)
-named_twice p (q ∷ qs) zero h r e = let t = equal_name q.name.now p.name.now (e q) in cond-false _ _ _ t.0 ∙ cond-true _ _ _ t.1
-named_twice p (q ∷ qs) (suc i) h r e =
-    go (name_order p.name.now q) refl (named_twice p qs i (omega arith) (λ j k d a b. r (suc j) (suc k) d (omega arith) (omega arith)) (λ d. e d))
-  where
-    go : (o : Ordering) → name_order p.name.now q ≡ o → with_pair (pair_of p) (map pair_of qs) ≡ None → with_pair (pair_of p) (map pair_of (q ∷ qs)) ≡ None
-    go Less f ih = cond-true _ _ _ (less_name q.name.now p.name.now f) ∙ ap (option_map (λ rs. pair_of q ∷ rs)) ih
-    go Equal f ih = let t = equal_name q.name.now p.name.now f in cond-false _ _ _ t.0 ∙ cond-true _ _ _ t.1
-    go Greater f ih =
-        let a : ordering_index (name_order p.name.now q) ≤ ordering_index (name_order p.name.now (get_or qs i q)) = r 0 (suc i) q (omega arith) (omega arith) in
-        let b = rw (f, e q) at a in
-        absurd (omega (arith, b))
+named_twice p [] i d h l e = absurd (omega arith)
+named_twice p (q ∷ qs) zero d h l e = cond-false _ _ _ (h.2 l q) ∙ cond-true _ _ _ e
+named_twice p (q ∷ qs) (suc i) d h l e =
+    cond-true _ _ _ (h.1 0 q (omega arith) (omega arith))
+    ∙ ap (option_map (λ rs. pair_of q ∷ rs)) (named_twice p qs i d (omega arith, (λ k d a b. h.1 (suc k) d (omega arith) (omega arith)), (λ m. h.2 (omega arith))) (omega arith) e)
 
--- otherwise the pair goes between those before it and those after it
-pub put_between : (p : Pair) (qs : List Pair) (i : ℕ) → i ≤ length qs → IsPartitionPoint (λ q. name_order p.name.now q ≡ Less) (λ q. name_order p.name.now q ≡ Greater) qs i → with_pair (pair_of p) (map pair_of qs) ≡ Some (map pair_of (insert qs i p))
+-- otherwise the pair goes there
+pub put_there : (p : Pair) (qs : List Pair) (i : ℕ) (d : Pair) → IsPlace p.name.now qs i → (i < length qs → bytes_eq (get_or qs i d).name.now p.name.now ≡ false) → with_pair (pair_of p) (map pair_of qs) ≡ Some (map pair_of (insert qs i p))
 unfolding with_pair
-put_between p [] zero h s = refl
-put_between p [] (suc i) h s = absurd (omega arith)
-put_between p (q ∷ qs) zero h s = let t = greater_name q.name.now p.name.now (s.1 0 q (omega arith) (omega arith)) in cond-false _ _ _ t.0 ∙ cond-false _ _ _ t.1
-put_between p (q ∷ qs) (suc i) h s =
-    cond-true _ _ _ (less_name q.name.now p.name.now (s.0 0 q (omega arith) (omega arith)))
-    ∙ ap (option_map (λ rs. pair_of q ∷ rs)) (put_between p qs i (omega arith) ((λ k d a b. s.0 (suc k) d (omega arith) (omega arith)), (λ k d a b. s.1 (suc k) d (omega arith) (omega arith))))
-
--- names in order may be searched
-is_less : (o : Ordering) → is_lt o ≡ true → o ≡ Less
-is_less Less e = refl
-is_less Equal e = absurd (let z : ◌≡◌ {A = ℕ} 0 1 = cc in omega arith)
-is_less Greater e = absurd (let z : ◌≡◌ {A = ℕ} 0 1 = cc in omega arith)
-
-at_most_two : (o : Ordering) → ordering_index o ≤ 2
-at_most_two Less = omega arith
-at_most_two Equal = omega arith
-at_most_two Greater = omega arith
-
-rises : (n xs ys : List ℕ) → bytes_lt xs ys ≡ true → ordering_index (slice_cmp nat_cmp xs n) ≤ ordering_index (slice_cmp nat_cmp ys n)
-rises n xs ys e = go (slice_cmp nat_cmp ys n) refl
-  where
-    less : slice_cmp nat_cmp xs ys ≡ Less
-    less = is_less (slice_cmp nat_cmp xs ys) (before xs ys (slice_cmp nat_cmp xs ys) refl ∙ e)
-
-    go : (o : Ordering) → slice_cmp nat_cmp ys n ≡ o → ordering_index (slice_cmp nat_cmp xs n) ≤ ordering_index (slice_cmp nat_cmp ys n)
-    go Less f = rw (nat_list_cmp_total.trans xs ys n less f, f) (omega arith)
-    go Equal f =
-        let g : slice_cmp nat_cmp ys xs ≡ Greater = nat_list_cmp_total.antisymm ys xs ∙ ap ordering_reverse less in
-        let k : slice_cmp nat_cmp n xs ≡ Greater = sym (nat_list_cmp_total.congr ys n xs f) ∙ g in
-        rw (nat_list_cmp_total.antisymm xs n ∙ ap ordering_reverse k, f) (omega arith)
-    go Greater f = rw f (at_most_two (slice_cmp nat_cmp xs n))
-
-next_rises : (qs : List Pair) (k : ℕ) (d : Pair) → rising (map pair_of qs) ≡ true → suc k < length qs → bytes_lt (get_or qs k d).name.now (get_or qs (suc k) d).name.now ≡ true
-unfolding rising
-next_rises [] k d r h = absurd (omega arith)
-next_rises (p ∷ []) k d r h = absurd (omega arith)
-next_rises (p ∷ (q ∷ qs)) zero d r h = (and_parts (bytes_lt p.name.now q.name.now) (rising (map pair_of (q ∷ qs))) r).0
-next_rises (p ∷ (q ∷ qs)) (suc k) d r h = next_rises (q ∷ qs) k d (and_parts (bytes_lt p.name.now q.name.now) (rising (map pair_of (q ∷ qs))) r).1 (omega arith)
-
-pub searchable : (n : List ℕ) (qs : List Pair) → rising (map pair_of qs) ≡ true → IsNonDecreasingBy (λ q. ordering_index (name_order n q)) qs
-searchable n qs r = IsNonDecreasingBy-from_all_adjacent (λ q. ordering_index (name_order n q)) qs (λ k d h. rw (add-one k) (rises n (get_or qs k d).name.now (get_or qs (suc k) d).name.now (next_rises qs k d r (omega arith))))
+put_there p [] zero d h e = refl
+put_there p [] (suc i) d h e = let l = h.0 in absurd (omega (arith, l))
+put_there p (q ∷ qs) zero d h e = cond-false _ _ _ (h.2 (omega arith) q) ∙ cond-false _ _ _ (e (omega arith))
+put_there p (q ∷ qs) (suc i) d h e =
+    let l = h.0 in
+    cond-true _ _ _ (h.1 0 q (omega arith) (omega arith))
+    ∙ ap (option_map (λ rs. pair_of q ∷ rs)) (put_there p qs i d (omega (arith, l), (λ k d a b. h.1 (suc k) d (omega arith) (omega arith)), (λ m. h.2 (omega (arith, m)))) (λ m. e (omega (arith, m))))
 
 -- names above n
 unfoldable above : List ℕ → List NamedValue → Bool

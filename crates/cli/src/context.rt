@@ -27,6 +27,21 @@ impl<'a, T: Drop> From<AllocFailed<T>> for AddError<'a> {
     }
 }
 
+// Puts a pair among pairs in any order, before the first whose name isn't below its own; it is refused where that one has its name.
+pub fn add_pair<'a>(pairs: &mut Vec<Pair<'a>>, pair: Pair<'a>) -> Result<(), AddError<'a>>
+    ensures value { Adds (pair_of pair.entry) (map pair_of pairs.old.items) result (map pair_of pairs.new.items) }
+{
+    let place = pairs
+        .iter()
+        .position(|one| one.name >= pair.name)
+        .unwrap_or(pairs.len());
+    if place < pairs.len() && pairs[place].name == pair.name {
+        return Err(AddError::Twice(pair.name));
+    }
+    pairs.insert(place, pair)?;
+    Ok(())
+}
+
 // Pairs in order, each name once.
 #[derive(Drop)]
 pub struct Context<'a> {
@@ -65,13 +80,6 @@ impl<'a> Context<'a> {
     pub fn add(&mut self, pair: Pair<'a>) -> Result<(), AddError<'a>>
         ensures value { Adds (pair_of pair.entry) self.old result self.new }
     {
-        let name = pair.name;
-        match self.pairs.binary_search_by(|one| one.name.cmp(name)) {
-            Ok(_) => Err(AddError::Twice(name)),
-            Err(place) => {
-                self.pairs.insert(place, pair)?;
-                Ok(())
-            }
-        }
+        add_pair(&mut self.pairs, pair)
     }
 }
