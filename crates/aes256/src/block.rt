@@ -40,6 +40,7 @@ fn encrypt_words(words: &[u32; 60], block: [u8; 16]) -> [u8; 16]
 {
     let (keys, _) = words.as_chunks::<4>();
     let mut s = load(&block, keys[0]);
+    // By number: states and keys are secret, and no iterator runs over them.
     for i in 1..14 {
         // By way of a `let`: a call's result that is an array isn't proved where it goes right into `s`.
         let next = round(s, keys[i]);

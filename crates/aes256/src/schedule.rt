@@ -25,12 +25,14 @@ fn next_word(prev: u32, old: u32, i: usize) -> u32
     }
 }
 
-// the key in the first eight words
+// the key in the first eight words; sha512 reads its words alike, but one function for both would be told width and room, and be no
+// shorter
 fn first_words(key: &[u8; 32]) -> [u32; 60]
     ensures { words_bytes (take 8 result) ≡ key.now }
 {
     let (columns, _) = key.as_chunks::<4>();
     let mut w = [0; 60];
+    // By place: a key is secret.
     for i in 0..8 {
         w[i] = u32::from_be_bytes(columns[i]);
     }
@@ -42,6 +44,7 @@ fn expand_words(first: [u32; 60]) -> [u32; 60]
     ensures { (take 8 result ≡ take 8 first) × (words_bytes result ≡ round_keys (words_bytes (take 8 first))) }
 {
     let mut w = first;
+    // By place: each word comes from two before it.
     for i in 8..60 {
         w[i] = next_word(w[i - 1], w[i - 8], i);
     }

@@ -1,12 +1,7 @@
 -- How a frame's parts lie one after another, and how long it is.
 use Rattle.std.proofs.Common.{◌≡◌, ℕ, ◌/◌, ◌%◌, ◌<◌, ◌≤◌, Bool, List, [], ◌∷◌, ◌++◌, length, sym, refl, ap, ◌∙◌, ap₂, append_assoc, arith, length-append}
-use Rattle.std.specs.Prelude.{Some, None, Option, IsSome, ⊤}
-use Rattle.std.specs.Borrow.{MutBor}
 use Rattle.octets.specs.Bits.{pick}
 use Rattle.octets.specs.Bytes.{to_bytes}
-use Rattle.octets.specs.Splice.{spliced}
-use Rattle.octets.specs.declared.writer.Writer.{Writer}
-use Rattle.octets.specs.Writing.{Starts, Wrote, Writes}
 use Rattle.octets.proofs.Numbers.{length-to_bytes}
 use Rattle.gcm.specs.Gcm.{Sealed}
 use Rattle.gcm.specs.Calls.{SealedAs, Opens}
@@ -73,12 +68,3 @@ aad_within Final = omega arith
 pub length_front : (kind : FrameKind) (n k : ℕ) → length (frame_front kind n k) ≡ front_length kind
 length_front Regular n k = simp (length-append, length-to_bytes)
 length_front Final n k = simp (length-append, length-to_bytes)
-
--- what a writer was lent has room for the bytes, so they are written
-pub has_room : (lent : MutBor (List ℕ)) (start w : Writer) (new : List ℕ) (r : Option ⊤) → Starts lent start → Writes start new r w → length new ≤ length lent.now → IsSome r
-has_room lent start w new (Some u) s p h = refl
-has_room lent start w new None s p h = let a = ap length s.holds in let b = s.front in let l = p.lacks in absurd (omega arith)
-
--- and stand in front of what the lender holds then
-pub lender_holds : (lent : MutBor (List ℕ)) (start w : Writer) (new x : List ℕ) → Starts lent start → Wrote start new w → (lent.ghost_name ≡ w.out.ghost_name → x ≡ w.out.now) → x ≡ spliced lent.now 0 new
-lender_holds lent start w new x s p e = e (sym s.same ∙ sym p.same) ∙ p.written.holds ∙ ap₂ (λ l n. spliced l n new) s.holds s.front

@@ -1,5 +1,5 @@
 -- Readers of frames in steps: after the nonce, and after the length.
-use Rattle.std.proofs.Common.{◌≡◌, ℕ, ◌+◌, ◌≤◌, true, false, ◌&&◌, eqb, leb, List, [], ◌∷◌, length, take, drop, Some, None, Option, sym, refl, ap, ◌∙◌, ⊎_elim, arith}
+use Rattle.std.proofs.Common.{◌≡◌, ℕ, ◌+◌, ◌≤◌, true, false, eqb, leb, List, [], ◌∷◌, length, take, drop, Some, None, Option, sym, refl, ap, ◌∙◌, ⊎_elim, arith}
 use lib.Pointwise.{pointwise}
 use Rattle.std.specs.Prelude.{nat_eq, MatchOption}
 use Rattle.std.specs.Borrow.{Bor}
@@ -7,6 +7,7 @@ use Rattle.octets.specs.Bytes.{bytes_eq, to_bytes, of_bytes}
 use Rattle.octets.specs.Cut.{cut, and_then, guard}
 use Rattle.std.proofs.lemmas.Bool.{cases_lt}
 use Rattle.octets.proofs.Numbers.{length-to_bytes}
+use Rattle.octets.proofs.Order.{pointwise_is}
 use Rattle.octets.proofs.Cuts.{cut_some, cut_none, and_then_some, and_then_none, guard_true, guard_false, and_then_assoc, and_then_ext, guard-and_then}
 use Rattle.format.specs.Reading.{ReadFrame, read_regular, read_final}
 use Rattle.frames.specs.Next.{after_nonce, rest, body}
@@ -25,15 +26,7 @@ counted size bs = and_then (cut 4 bs) (λ l. guard (leb (of_bytes l.front) size)
 pub final_steps : (size n : ℕ) (bs : List ℕ) → and_then (cut 4 bs) (λ m. guard (eqb (of_bytes m.front) n) (and_then (after_nonce n m.rest) (λ r. counted size r))) ≡ read_final size n bs
 final_steps size n bs = and_then_ext (cut 4 bs) _ _ (λ m. ap (λ xs. guard (eqb (of_bytes m.front) n) xs) (nonce_step n m.rest (λ r. counted size r)))
 
--- the library's comparison of byte strings
-pub pointwise_is : (xs ys : List ℕ) → pointwise nat_eq xs ys ≡ bytes_eq xs ys
-unfolding bytes_eq
-pointwise_is [] [] = refl
-pointwise_is [] (y ∷ ys) = refl
-pointwise_is (x ∷ xs) [] = refl
-pointwise_is (x ∷ xs) (y ∷ ys) = ap (λ b. eqb x y && b) (pointwise_is xs ys)
-
--- and its way of taking off a prefix
+-- the library's way of taking off a prefix
 taken : (n : ℕ) (bs : List ℕ) → 12 ≤ length bs → guard (pointwise nat_eq (take (length (to_bytes 12 n)) bs) (to_bytes 12 n)) (drop (length (to_bytes 12 n)) bs ∷ []) ≡ after_nonce n bs
 taken n bs h =
     rw (length-to_bytes 12 n, pointwise_is (take 12 bs) (to_bytes 12 n))

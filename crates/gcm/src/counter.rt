@@ -22,6 +22,7 @@ fn xor_into(src: &[u8], mask: &[u8; 16], dst: &mut [u8])
     requires { (length src.now ≤ 16) × (length dst.old ≡ length src.now) }
     ensures { dst.new ≡ xor_bytes src.now mask.now }
 {
+    // By place: a text is secret, and no iterator runs over it.
     for j in 0..src.len() {
         dst[j] = src[j] ^ mask[j];
     }
@@ -32,6 +33,7 @@ pub fn xor_keystream(keys: &RoundKeys, nonce: &[u8; 12], src: &[u8], dst: &mut [
     requires { length dst.old ≡ length src.now }
     ensures { dst.new ≡ ctr (round_keys (key_of keys.now)) nonce.now src.now }
 {
+    // By place, as above.
     for i in 0..src.len().div_ceil(16) {
         let at = 16 * i;
         let end = src.len().min(at + 16);

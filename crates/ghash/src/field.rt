@@ -28,6 +28,7 @@ pub fn product(x: Element, y: Element) -> Element
 {
     let mut sum = Element::ZERO;
     let mut v = y;
+    // By number: an element has no parts to go through, and all 128 bits are looked at.
     for i in 0..128u32 {
         sum = sum.add_masked(v, x.bit(127 - i));
         v = times_x(v);

@@ -11,7 +11,7 @@ use octets::{cut, cut_number, equal};
 // the commitment's and the tag's bytes
 const COMMITMENT_AND_TAG: usize = 48;
 
-// From the content type on.
+// From the content type on. A reader answers None for bytes that are too few as for wrong ones; here they differ.
 fn tail_settled(bytes: &[u8]) -> Option<()>
     ensures { IfSome result (λ _. (id : List ℕ) (ps : List Pair) (ks : List EncryptedDataKey) → Settles bytes.now (read_tail id ps ks)) }
 {

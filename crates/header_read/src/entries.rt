@@ -24,7 +24,8 @@ pub trait Kind<'m> {
         ensures value { entry_cuts says result ≡ cut bytes.now };
 }
 
-// So many entries of a kind, one after another, in these bytes.
+// So many entries of a kind, one after another, in these bytes. Nothing is allocated, so the bytes themselves are kept, and how
+// many entries they hold.
 #[derive(Clone, Copy)]
 pub struct Entries<'m, K> {
     pub(crate) count: usize,

@@ -71,6 +71,7 @@ impl Mac {
     }
 }
 
+// three calls, as sha512's hash of its own state: a trait for both would be longer than they are
 pub fn hmac(key: &[u8], bytes: &[u8]) -> [u8; 64]
     ensures value { result ≡ hmac key.now bytes.now }
 {

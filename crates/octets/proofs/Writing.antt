@@ -1,6 +1,7 @@
 -- Bytes written one after another: two writes come to one, and where one lacks room, so does all that begins with it.
-use Rattle.std.proofs.Common.{◌≡◌, ℕ, List, ◌++◌, length, ◌≤◌, Some, None, Option, sym, ap, ap₂, ◌∙◌, arith, length-append}
+use Rattle.std.proofs.Common.{◌≡◌, ℕ, List, ◌++◌, length, ◌≤◌, Some, None, Option, sym, refl, ap, ap₂, ◌∙◌, arith, length-append}
 use Rattle.std.specs.Bool.{⊤}
+use Rattle.std.specs.Option.{IsSome}
 use Rattle.std.specs.Borrow.{MutBor}
 use Rattle.octets.specs.declared.writer.Writer.{Writer}
 use Rattle.octets.specs.Splice.{spliced, Written}
@@ -31,3 +32,12 @@ written_whole lent start w new out n None e h p q ends =
     let front = p.front in
     let lacks = q.lacks in
     absurd (omega arith)
+
+-- what a writer was lent has room for the bytes, so they are written
+pub has_room : (lent : MutBor (List ℕ)) (start w : Writer) (new : List ℕ) (r : Option ⊤) → Starts lent start → Writes start new r w → length new ≤ length lent.now → IsSome r
+has_room lent start w new (Some u) s p h = refl
+has_room lent start w new None s p h = let a = ap length s.holds in let b = s.front in let l = p.lacks in absurd (omega arith)
+
+-- and stand in front of what the lender holds then
+pub lender_holds : (lent : MutBor (List ℕ)) (start w : Writer) (new x : List ℕ) → Starts lent start → Wrote start new w → (lent.ghost_name ≡ w.out.ghost_name → x ≡ w.out.now) → x ≡ spliced lent.now 0 new
+lender_holds lent start w new x s p e = e (sym s.same ∙ sym p.same) ∙ p.written.holds ∙ ap₂ (λ l n. spliced l n new) s.holds s.front

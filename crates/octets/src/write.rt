@@ -6,7 +6,7 @@ ghost use Rattle.octets.specs.Splice.{Put};
 use crate::number::Word;
 
 // Writes bytes from a place on, and answers where the next go; None where they do not fit, and then
-// nothing is written.
+// nothing is written. For one place alone: a `Writer` keeps the place for bytes one after another.
 pub fn put(out: &mut [u8], at: usize, bytes: &[u8]) -> Option<usize>
     ensures value { Put out.old at bytes.now result out.new }
 {

@@ -29,7 +29,8 @@ impl<'o> Writer<'o> {
         Some(())
     }
 
-    // The same for a number in its bytes, the high one first.
+    // The same for a number in its bytes, the high one first. Each of the two is one call of the function of its
+    // name, so that there is one way to write either.
     pub fn put_number<T: Word<N>, const N: usize>(&mut self, n: T) -> Option<()>
         ensures value { Writes self.old (to_bytes N (T.value n)) result self.new }
         ensures keeps { KeepsAtNone self.old result self.new }

@@ -11,7 +11,8 @@ use crate::walk::open_frames;
 use header_read::{Context, read_header};
 use octets::clear;
 
-// A message that opened: the encryption context, over the message's bytes, and how long the text is.
+// A message that opened: the encryption context, over the message's bytes, and how long the text is, which stands in the lent
+// bytes: nothing is allocated for it.
 #[derive(Clone, Copy)]
 pub struct Opened<'m> {
     pub context: Context<'m>,

@@ -66,6 +66,7 @@ impl Opener {
             return Err(OpenRefusal::OutTooShort);
         }
         let cipher = &self.unlocked.cipher;
+        // Refusals go by `let .. else`.
         let Ok(()) = cipher.open_frame(self.number, frame, &mut out[0..len]) else {
             return Err(OpenRefusal::FrameTag(self.number));
         };

@@ -1,7 +1,7 @@
 // How far the opening of a message has come, and what one frame more answers.
 use crate::unlock::Unlocked;
 
-// number is the next frame's, or the final frame's once it was opened
+// number is the next frame's, or the final frame's once it was opened: an enum of the two states would hold it in both
 #[derive(Drop)]
 pub struct Opener {
     pub(crate) unlocked: Unlocked,

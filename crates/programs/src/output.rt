@@ -17,6 +17,7 @@ pub fn check_output<'a>(rt: &HostRuntime, path: &'a str, force: bool) -> Result<
         Ok(None) if force => Err(Problem::NoFile(path)),
         Ok(_) => Err(Problem::Exists(path)),
         Err(error) if error.kind() == io::ErrorKind::NotFound => Ok(()),
+        // Not by `reading`: of the errors one is none.
         Err(error) => Err(Problem::File(Action::Read, path, error)),
     }
 }

@@ -1,4 +1,5 @@
-// SHA-512, HMAC and HKDF: one case a line.
+// SHA-512, HMAC and HKDF: one case a line. The cases are alike but for how many words each reads and what it calls, and no longer
+// than a function that is told both.
 use crate::words::Words;
 use hkdf::{derive, hmac};
 use sha512::hash;

@@ -100,6 +100,7 @@ impl<'w, const N: usize> FromWords<'w> for &'w [u8; N] {
     }
 }
 
+// Several words at once: one impl for each number of them, since no tuple is of any length.
 impl<'w, A: FromWords<'w>, B: FromWords<'w>> FromWords<'w> for (A, B) {
     fn from_words(words: &mut Words<'w>) -> anyhow::Result<(A, B)> {
         Ok((words.read()?, words.read()?))

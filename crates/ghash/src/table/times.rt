@@ -20,6 +20,7 @@ impl Table {
         let mut c = [0u32; 128];
         let mut d = [0u32; 128];
         let mut v = h;
+        // By place, into four arrays at once.
         for i in 0..128usize {
             let q = Quad::from(v);
             a[i] = q.a;
@@ -60,6 +61,7 @@ impl Table {
         ensures { quad_value result ≡ product_steps 32 word (times_power from (hash_key_of self.now)) (quad_value sum) }
     {
         let mut s = sum;
+        // By place: every row is read, whatever the word, which is secret.
         for j in 0..32u32 {
             s = s.add_masked(self.row(from + j as usize), (word >> (31 - j)) & 1);
         }

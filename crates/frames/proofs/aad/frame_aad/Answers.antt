@@ -1,6 +1,7 @@
 use Rattle.std.proofs.Common.{take, ap, ◌∙◌, arith, rules, take_at}
 use Rattle.frames.specs.Kind.{aad_length}
-use Rattle.frames.proofs.Parts.{length_aad, aad_within, has_room, lender_holds}
+use Rattle.octets.proofs.Writing.{has_room, lender_holds}
+use Rattle.frames.proofs.Parts.{length_aad, aad_within}
 use Rattle.frames.proofs.aad.frame_aad.Goals as goal
 
 pub unwrap-requires : goal.unwrap-requires

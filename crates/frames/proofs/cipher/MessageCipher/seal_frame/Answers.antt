@@ -1,7 +1,8 @@
 use Rattle.std.proofs.Common.{take, length, ap, ◌∙◌, arith, rules}
 use Rattle.octets.proofs.Splice.{spliced_all}
 use Rattle.gcm.specs.Key.{key_of}
-use Rattle.frames.proofs.Parts.{length_front, frame_in_parts, has_room, lender_holds}
+use Rattle.octets.proofs.Writing.{has_room, lender_holds}
+use Rattle.frames.proofs.Parts.{length_front, frame_in_parts}
 use Rattle.frames.proofs.cipher.MessageCipher.seal_frame.Goals as goal
 
 pub unwrap-requires : goal.unwrap-requires
