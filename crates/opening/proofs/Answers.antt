@@ -1,6 +1,5 @@
 -- What an answer says of the lent bytes: the text and then zeros, or zeros.
-use Rattle.std.proofs.Common.{◌≡◌, ℕ, ◌-◌, ◌<◌, ◌≤◌, true, List, ◌++◌, length, Ok, Err, Result, MatchResult, refl, sym, ap, ◌∙◌, subst, arith, length-drop, length-take-le, drop_at}
-use native.Mathlib.Nat.{sub-zero}
+use Rattle.std.proofs.Common.{◌≡◌, ℕ, ◌-◌, ◌<◌, ◌≤◌, true, List, ◌++◌, length, Ok, Err, Result, MatchResult, refl, sym, ap, ◌∙◌, arith, length-drop, length-take-le, drop_at}
 use borrow.Rule.Slice.PartMut.{put_mid}
 use lib.ListN as L
 use Rattle.std.proofs.lemmas.List.{append-nil, drop_all}

@@ -1,8 +1,7 @@
-use Rattle.std.proofs.Common.{of_calls, ◌≡◌, ◌-◌, length, sym, refl, ap, ◌∙◌, arith, length-drop}
+use Rattle.std.proofs.Common.{of_calls, ◌-◌, length, sym, refl, ap, ◌∙◌, arith, length-drop}
 use native.Mathlib.Nat.{sub-zero}
 use Rattle.std.proofs.lemmas.List.{take_rest}
 use Rattle.octets.specs.Bytes.{repeat}
-use Rattle.opening.specs.Answer.{text_len}
 use Rattle.opening.proofs.Unlocking.{all_bytes_of}
 use Rattle.opening.proofs.Answers.{answer_short, answer_enough, text_known, answer_kept, zeros_behind, accounts}
 use Rattle.opening.proofs.message.open.Goals as goal

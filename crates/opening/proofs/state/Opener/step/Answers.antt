@@ -4,7 +4,7 @@ use Rattle.frames.specs.Kind.{is_final}
 use Rattle.frames.specs.Next.{frame_of}
 use Rattle.opening.proofs.Unlocking.{all_bytes_of}
 use Rattle.opening.proofs.Steps.{text_found, text_lacks}
-use Rattle.opening.proofs.FrameByFrame.{at_the_end, after_final, no_frame, rest_fits, number_fits, out_short, wrong_tag, final, regular, part_long}
+use Rattle.opening.proofs.FrameByFrame.{after_final, no_frame, rest_fits, number_fits, out_short, wrong_tag, final, regular, part_long}
 use Rattle.opening.proofs.state.Opener.step.Goals as goal
 use Rattle.opening.proofs.state.Opener.step.Goals.{then-at_end-via-then-at_end, then-at_end-via-else-at_end+then-bytes-self}
 
