@@ -1,11 +1,9 @@
 // Whole messages and their headers, made by another implementation: one case a line.
 use crate::ciphers::all_zero;
-use crate::requests::{
-    DataKeyWords, Fixed, Lists, PairWords, context_is, data_keys_are, header_request,
-};
+use crate::requests::{Fixed, Lists, header_request};
 use crate::words::Words;
 use anyhow::ensure;
-use header::Request;
+use header::{EncryptedDataKey, Pair, Request};
 use header_read::ReadHeader;
 use opening::{OpenRefusal, Opened};
 
@@ -22,15 +20,15 @@ pub fn header_case(words: &mut Words) -> anyhow::Result<bool> {
 fn header_is<'w>(read: ReadHeader<'w>, words: &mut Words<'w>) -> anyhow::Result<bool> {
     let header = read.header;
     let (id, frame_length, commitment, tag) = words.read::<(&[u8], u64, &[u8], &[u8])>()?;
-    let (rest, context, data_keys) = words.read::<(u64, Vec<PairWords>, Vec<DataKeyWords>)>()?;
+    let (rest, context, data_keys) = words.read::<(u64, Vec<Pair>, Vec<EncryptedDataKey>)>()?;
     Ok(
         header.id == id
             && u64::from(header.frame_length) == frame_length
             && header.commitment == commitment
             && read.tag == tag
             && read.rest.len() as u64 == rest
-            && context_is(header.context, context)
-            && data_keys_are(header.encrypted_data_keys, data_keys),
+            && header.context.pairs().eq(context)
+            && header.encrypted_data_keys.data_keys().eq(data_keys),
     )
 }
 
@@ -47,8 +45,8 @@ pub fn open_case(words: &mut Words) -> anyhow::Result<bool> {
 }
 
 fn opened_is<'w>(opened: Opened<'w>, out: &[u8], words: &mut Words<'w>) -> anyhow::Result<bool> {
-    let (text, context) = words.read::<(&[u8], Vec<PairWords>)>()?;
-    Ok(opened.len == text.len() && text_and_zeros(text, out) && context_is(opened.context, context))
+    let (text, context) = words.read::<(&[u8], Vec<Pair>)>()?;
+    Ok(opened.len == text.len() && text_and_zeros(text, out) && opened.context.pairs().eq(context))
 }
 
 fn text_and_zeros(text: &[u8], out: &[u8]) -> bool {

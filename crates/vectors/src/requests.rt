@@ -1,7 +1,6 @@
 // What requests and headers are made of, as the words of a line say it.
 use crate::words::{FromWords, Words};
 use header::{EncryptedDataKey, HeaderRequest, Pair};
-use header_read::{Context, EncryptedDataKeys};
 
 impl<'w> FromWords<'w> for Pair<'w, 'w> {
     fn from_words(words: &mut Words<'w>) -> anyhow::Result<Pair<'w, 'w>> {
@@ -32,28 +31,6 @@ impl<'w> FromWords<'w> for Lists<'w> {
         let (pairs, data_keys) = words.read()?;
         Ok(Lists { pairs, data_keys })
     }
-}
-
-pub type PairWords<'w> = (&'w [u8], &'w [u8]);
-
-pub type DataKeyWords<'w> = (&'w [u8], &'w [u8], &'w [u8]);
-
-// Whether these are the pairs, in order and no more.
-pub fn context_is<'w>(context: Context<'w>, expected: Vec<PairWords<'w>>) -> bool {
-    context
-        .pairs()
-        .map(|pair| (pair.name, pair.value))
-        .eq(expected)
-}
-
-pub fn data_keys_are<'w>(
-    data_keys: EncryptedDataKeys<'w>,
-    expected: Vec<DataKeyWords<'w>>,
-) -> bool {
-    data_keys
-        .data_keys()
-        .map(|key| (key.provider_id, key.provider_info, key.ciphertext))
-        .eq(expected)
 }
 
 // What a request begins with.
