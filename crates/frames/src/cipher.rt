@@ -13,13 +13,6 @@ use crate::frame::{END_MARKER, Frame, FrameKind, WrongLength};
 use gcm::{Key, NotOpened, open, seal};
 use octets::Writer;
 
-// The key that a message is sealed with, prepared, and the message's id.
-#[derive(Drop)]
-pub struct MessageCipher {
-    pub key: Key,
-    pub id: [u8; 32],
-}
-
 // What stands before the ciphertext of a frame with so many bytes of text.
 fn write_front(kind: FrameKind, number: u32, len: usize, to: &mut Writer) -> Option<()>
     requires { kind ≡ Final → len < 4294967296 }
@@ -39,8 +32,67 @@ fn write_front(kind: FrameKind, number: u32, len: usize, to: &mut Writer) -> Opt
     }
 }
 
+// A frame over all of the lent bytes.
+pub fn seal_frame(
+    key: &Key,
+    id: &[u8; 32],
+    kind: FrameKind,
+    number: u32,
+    text: &[u8],
+    out: &mut [u8],
+) -> Result<(), WrongLength>
+    ensures fits { is_ok result ≡ frame_fits kind (length text.now) (length out.old) }
+    ensures value { out.new ≡ (if is_ok result then sealed_frame kind (key_of key.now) id.now number text.now else out.old) }
+{
+    // a final frame says its length in four bytes
+    if kind == FrameKind::Final && text.len() > u32::MAX as usize {
+        return Err(WrongLength);
+    }
+    if out.len() != text.len() + kind.overhead() {
+        return Err(WrongLength);
+    }
+    let (front, sealed) = out.split_at_mut(kind.front_len());
+    let (ciphertext, tag_place) = sealed.split_at_mut(text.len());
+    let aad = frame_aad(kind, id, number, text.len());
+    let aad = &aad[..kind.aad_len()];
+    let tag = seal(key, &frame_nonce(number), aad, text, ciphertext).unwrap();
+    tag_place.copy_from_slice(&tag);
+    write_front(kind, number, text.len(), &mut Writer::new(front)).unwrap();
+    Ok(())
+}
+
+// A frame's text, into lent bytes of its length; where the tag isn't right, or they are of another length, they are as they were.
+pub fn open_frame(
+    key: &Key,
+    id: &[u8; 32],
+    number: u32,
+    frame: Frame,
+    out: &mut [u8],
+) -> Result<(), NotOpened>
+    ensures value { OpensFrame (key_of key.now) id.now number (frame_of frame.entry) out.old (is_ok result) out.new }
+{
+    let nonce = frame_nonce(number);
+    let aad = frame_aad(frame.kind, id, number, frame.ciphertext.len());
+    let aad = &aad[..frame.kind.aad_len()];
+    open(key, &nonce, aad, frame.ciphertext, &frame.tag, out)
+}
+
+// The tag of a header, which is sealed with no text.
+pub fn header_tag(key: &Key, header: &[u8]) -> [u8; 16]
+    ensures value { result ≡ header_tag (key_of key.now) header.now }
+{
+    seal(key, &[0; 12], header, &[], &mut []).unwrap()
+}
+
+// The key that a message is sealed with, prepared, and the message's id. The methods are the calls of their names, which ask for no
+// more than a key and an id that are lent.
+#[derive(Drop)]
+pub struct MessageCipher {
+    pub key: Key,
+    pub id: [u8; 32],
+}
+
 impl MessageCipher {
-    // A frame over all of the lent bytes.
     pub fn seal_frame(
         &self,
         kind: FrameKind,
@@ -51,39 +103,19 @@ impl MessageCipher {
         ensures fits { is_ok result ≡ frame_fits kind (length text.now) (length out.old) }
         ensures value { out.new ≡ (if is_ok result then sealed_frame kind (key_of self.now.key) self.now.id number text.now else out.old) }
     {
-        // a final frame says its length in four bytes
-        if kind == FrameKind::Final && text.len() > u32::MAX as usize {
-            return Err(WrongLength);
-        }
-        if out.len() != text.len() + kind.overhead() {
-            return Err(WrongLength);
-        }
-        let (front, sealed) = out.split_at_mut(kind.front_len());
-        let (ciphertext, tag_place) = sealed.split_at_mut(text.len());
-        let aad = frame_aad(kind, &self.id, number, text.len());
-        let aad = &aad[..kind.aad_len()];
-        let tag = seal(&self.key, &frame_nonce(number), aad, text, ciphertext).unwrap();
-        tag_place.copy_from_slice(&tag);
-        write_front(kind, number, text.len(), &mut Writer::new(front)).unwrap();
-        Ok(())
+        seal_frame(&self.key, &self.id, kind, number, text, out)
     }
 
-    // A frame's text, into lent bytes of its length; where the tag isn't right, or they are of another length, they are as they
-    // were.
     pub fn open_frame(&self, number: u32, frame: Frame, out: &mut [u8]) -> Result<(), NotOpened>
         ensures value { OpensFrame (key_of self.now.key) self.now.id number (frame_of frame.entry) out.old (is_ok result) out.new }
     {
-        let nonce = frame_nonce(number);
-        let aad = frame_aad(frame.kind, &self.id, number, frame.ciphertext.len());
-        let aad = &aad[..frame.kind.aad_len()];
-        open(&self.key, &nonce, aad, frame.ciphertext, &frame.tag, out)
+        open_frame(&self.key, &self.id, number, frame, out)
     }
 
-    // The tag of a header, which is sealed with no text.
     pub fn header_tag(&self, header: &[u8]) -> [u8; 16]
         ensures value { result ≡ header_tag (key_of self.now.key) header.now }
     {
-        seal(&self.key, &[0; 12], header, &[], &mut []).unwrap()
+        header_tag(&self.key, header)
     }
 
     // The key is overwritten by the key of zeros.

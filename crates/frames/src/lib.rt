@@ -9,6 +9,6 @@ mod frame;
 mod next;
 
 pub use aad::{frame_aad, frame_nonce};
-pub use cipher::MessageCipher;
+pub use cipher::{MessageCipher, header_tag, open_frame, seal_frame};
 pub use frame::{END_MARKER, Frame, FrameKind, KEY_LENGTH, TAG_LENGTH, WrongLength};
 pub use next::read_frame;

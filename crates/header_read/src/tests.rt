@@ -95,10 +95,9 @@ fn read_back(rt: HostRuntime) -> Result<(), Fail> {
     };
     let mut message = [5; 113];
     assert_eq!(rt; write_header(header, &[9; 32], &mut message).ok(), Some(95));
-    let is_header = |len: usize| cut(&message, len).is_some_and(|parts| read_header(
-        parts.0,
-    ).is_some());
-    assert_eq!(rt; (0..111).any(is_header), false);
+    for n in 0..111 {
+        assert_eq!(rt; read_header(&message[..n]).is_some(), false);
+    }
     let read = read_header(&message).ok_or("no header")?;
     assert_eq!(rt; equal(read.tag, &[5; 16]), true);
     assert_eq!(rt; equal(read.rest, &[5; 2]), true);

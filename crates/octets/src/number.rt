@@ -1,6 +1,7 @@
 // Numbers of 16, 32 and 64 bits as bytes, the high one first.
 ghost use Rattle.std.specs.Prelude.{◌≡◌, ℕ, ◌<◌};
-ghost use Rattle.std.proofs.Common.{arith};
+ghost use Rattle.std.proofs.Common.{refl};
+ghost use Rattle.std.proofs.lemmas.Bool.{ltb-true};
 ghost use Rattle.octets.specs.Bytes.{to_bytes, of_bytes};
 
 // A number that has N bytes.
@@ -20,7 +21,7 @@ pub trait Word<const N: usize>: Copy {
 impl Word<2> for u16 {
     ghost value = { λ n. n };
 
-    ghost few = { Prim.omega arith };
+    ghost few = { ltb-true 2 9223372036854775808 refl };
 
     fn from_bytes(bytes: &[u8; 2]) -> u16 {
         u16::from_be_bytes(*bytes)
@@ -34,7 +35,7 @@ impl Word<2> for u16 {
 impl Word<4> for u32 {
     ghost value = { λ n. n };
 
-    ghost few = { Prim.omega arith };
+    ghost few = { ltb-true 4 9223372036854775808 refl };
 
     fn from_bytes(bytes: &[u8; 4]) -> u32 {
         u32::from_be_bytes(*bytes)
@@ -48,7 +49,7 @@ impl Word<4> for u32 {
 impl Word<8> for u64 {
     ghost value = { λ n. n };
 
-    ghost few = { Prim.omega arith };
+    ghost few = { ltb-true 8 9223372036854775808 refl };
 
     fn from_bytes(bytes: &[u8; 8]) -> u64 {
         u64::from_be_bytes(*bytes)

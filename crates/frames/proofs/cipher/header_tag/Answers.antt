@@ -1,6 +1,6 @@
 use Rattle.octets.specs.Bytes.{repeat}
 use Rattle.frames.specs.Cipher.{header_tag}
-use Rattle.frames.proofs.cipher.MessageCipher.header_tag.Goals as goal
+use Rattle.frames.proofs.cipher.header_tag.Goals as goal
 
 pub returns : goal.returns
 unfolding header_tag repeat
