@@ -1,5 +1,5 @@
 -- The words of a command line, each with what it is for. These are definitions: they assume nothing.
-use Rattle.std.specs.Prelude.{◌≡◌, ℕ, cond, List, [], ◌∷◌, map, Some, None, Ok, Err, string_bytes, codes, Option, Result, String, ◌==◌, slice_index}
+use Rattle.std.specs.Prelude.{◌≡◌, ℕ, cond, List, [], ◌∷◌, map, Some, None, Ok, Err, string_bytes, codes, Option, Result, String, Vec, vec_items, ◌==◌, slice_index}
 use Rattle.std.specs.Str.{bytes_eq}
 use Rattle.cli.specs.declared.options.Program.{Program}
 use Rattle.cli.specs.declared.options.Kind.{Kind}
@@ -10,7 +10,8 @@ use Rattle.cli.specs.declared.scan.Expects.TheVariants.{Word, ValueOf}
 use Rattle.cli.specs.declared.scan.Step.{Step}
 use Rattle.cli.specs.declared.scan.ScanError.{ScanError}
 use Rattle.cli.specs.declared.scan.ScanError.TheVariants.{Unknown, NoValue, Memory}
-use Rattle.cli.specs.Line.{Item}
+use Rattle.cli.specs.declared.line.Given.{Given}
+use Rattle.cli.specs.Line.{Item, item}
 use Rattle.cli.specs.Options.{option_of, takes, takes_value}
 
 -- an option: its value is the next word, or it takes none
@@ -57,8 +58,8 @@ abbrev pub words_of : {Z : Type 0} → List (String Z) → List (List ℕ)
 words_of ws = map string_bytes ws
 
 -- the answer is as defined, unless memory ran out
-abbrev pub Scans : Result (List Item) ScanError → Result (List Item) Fault → Type 0
-Scans (Ok line) r = r ≡ Ok line
+abbrev pub Scans : {Z : Type 0} → Result (Vec Given Z) ScanError → Result (List Item) Fault → Type 0
+Scans (Ok v) r = r ≡ Ok (map item (vec_items v))
 Scans (Err (Unknown w)) r = r ≡ Err (unknown w.now)
 Scans (Err (NoValue k)) r = r ≡ Err (no_value k)
 Scans (Err Memory) r = Unit {0}

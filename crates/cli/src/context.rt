@@ -28,6 +28,7 @@ impl<'a, T: Drop> From<AllocFailed<T>> for AddError<'a> {
 }
 
 // Puts a pair among pairs in any order, before the first whose name isn't below its own; it is refused where that one has its name.
+// The library's search from the front is right for any order, where one that halves would be for pairs in order alone.
 pub fn add_pair<'a>(pairs: &mut Vec<Pair<'a>>, pair: Pair<'a>) -> Result<(), AddError<'a>>
     ensures value { Adds (pair_of pair.entry) (map pair_of pairs.old.items) result (map pair_of pairs.new.items) }
 {

@@ -14,22 +14,22 @@ pub struct Given<'a> {
 
 // Everything that is given, in the order of the words.
 #[derive(Drop)]
-pub struct CommandLine<'a> {
-    given: Vec<Given<'a>>,
+pub struct CommandLine<'l, 'a> {
+    given: &'l [Given<'a>],
 }
 
-impl<'a> Model for CommandLine<'a> {
+impl<'l, 'a> Model for CommandLine<'l, 'a> {
     ghost use Rattle.std.specs.Prelude.{List, map};
     ghost use Rattle.cli.specs.Line.{Item, item};
 
     ghost Value = { List Item };
 
-    ghost view = { λ line. map item line.given.items };
+    ghost view = { λ line. map item line.given.now };
 }
 
-impl<'a> CommandLine<'a> {
-    pub(crate) fn of(given: Vec<Given<'a>>) -> CommandLine<'a>
-        ensures value { result ≡ map item given.entry.items }
+impl<'l, 'a> CommandLine<'l, 'a> {
+    pub fn of(given: &'l [Given<'a>]) -> CommandLine<'l, 'a>
+        ensures value { result ≡ map item given.now }
     {
         CommandLine { given }
     }
@@ -42,11 +42,11 @@ impl<'a> CommandLine<'a> {
     }
 
     // What is given of one kind.
-    pub fn texts(&self, kind: Kind) -> Texts<'_, 'a>
+    pub fn texts(&self, kind: Kind) -> Texts<'l, 'a>
         ensures value { result ≡ texts kind self.now }
     {
         Texts {
-            left: self.given.as_slice(),
+            left: self.given,
             kind,
         }
     }

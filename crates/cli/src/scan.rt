@@ -4,7 +4,7 @@ ghost use Rattle.cli.specs.Options.{option_of};
 ghost use Rattle.cli.specs.Scan.{step_of, option_step, scan_from, words_of, Scans};
 ghost use Rattle.cli.specs.declared.scan.ScanError.TheVariants.{Memory};
 
-use crate::line::{CommandLine, Given};
+use crate::line::Given;
 use crate::options::{Kind, Program};
 use std::alloc::{AllocFailed, Global};
 
@@ -97,7 +97,7 @@ pub fn scan<'a>(
     heap: Global,
     program: Program,
     words: &'a [String],
-) -> Result<CommandLine<'a>, ScanError<'a>>
+) -> Result<Vec<Given<'a>>, ScanError<'a>>
     ensures value { Scans result (scan_from program Expects.Word (words_of words.now)) }
 {
     let mut all = Vec::new(heap);
@@ -113,5 +113,5 @@ pub fn scan<'a>(
     if let Expects::ValueOf(kind) = expects {
         return Err(ScanError::NoValue(kind));
     }
-    Ok(CommandLine::of(all))
+    Ok(all)
 }

@@ -13,7 +13,7 @@ use std::alloc::Global;
 
 // The encryption context, in the order of the names.
 #[tactic(auto, unfolding(cli::specs::Context::rising))]
-pub fn context_of<'a>(heap: Global, line: &CommandLine<'a>) -> Result<Context<'a>, Problem<'a>>
+pub fn context_of<'a>(heap: Global, line: &CommandLine<'_, 'a>) -> Result<Context<'a>, Problem<'a>>
     ensures value { IfOk result (λ context. context_from [] (texts Kind.Context line.now) ≡ Some context) }
     ensures order { IfOk result (λ context. rising context ≡ true) }
 {

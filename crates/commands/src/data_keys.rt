@@ -13,7 +13,7 @@ use std::alloc::Global;
 // The encrypted data keys, of which there has to be one.
 pub fn data_keys_of<'a>(
     heap: Global,
-    line: &CommandLine<'a>,
+    line: &CommandLine<'_, 'a>,
 ) -> Result<Vec<DataKeyWord<'a>>, Problem<'a>>
     ensures value { IfOk result (λ v. map split_data_key (texts Kind.DataKey line.now) ≡ map some_parts v.items) }
 {

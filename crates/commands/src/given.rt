@@ -9,7 +9,7 @@ use cli::line::CommandLine;
 use cli::options::Kind;
 
 // The one text of a kind, or none.
-pub fn sole<'a>(line: &CommandLine<'a>, kind: Kind) -> Result<Option<&'a str>, Problem<'a>>
+pub fn sole<'a>(line: &CommandLine<'_, 'a>, kind: Kind) -> Result<Option<&'a str>, Problem<'a>>
     ensures value { IfOk result (λ o. texts kind line.now ≡ listed (option_map now_of o)) }
     ensures refused { IfErr result (λ e. (e ≡ Problem.Repeated kind) × (1 < length (texts kind line.now))) }
 {
@@ -22,7 +22,7 @@ pub fn sole<'a>(line: &CommandLine<'a>, kind: Kind) -> Result<Option<&'a str>, P
 }
 
 // The texts of INPUT and OUTPUT.
-pub fn operands<'a>(line: &CommandLine<'a>) -> Result<(&'a str, &'a str), Problem<'a>>
+pub fn operands<'a>(line: &CommandLine<'_, 'a>) -> Result<(&'a str, &'a str), Problem<'a>>
     ensures value { IfOk result (λ p. texts Kind.Operand line.now ≡ p.0.now ∷ p.1.now ∷ []) }
     ensures refused { IfErr result (λ e. (e ≡ Problem.Operands) × (length (texts Kind.Operand line.now) ≢ 2)) }
 {
@@ -34,7 +34,7 @@ pub fn operands<'a>(line: &CommandLine<'a>) -> Result<(&'a str, &'a str), Proble
 }
 
 // Whether an option that takes no value is given.
-pub fn is_given<'a>(line: &CommandLine<'a>, kind: Kind) -> Result<bool, Problem<'a>>
+pub fn is_given<'a>(line: &CommandLine<'_, 'a>, kind: Kind) -> Result<bool, Problem<'a>>
     ensures value { IfOk result (λ b. b ≡ some_of (texts kind line.now)) }
     ensures refused { IfErr result (λ e. (e ≡ Problem.Repeated kind) × (1 < length (texts kind line.now))) }
 {
@@ -42,7 +42,7 @@ pub fn is_given<'a>(line: &CommandLine<'a>, kind: Kind) -> Result<bool, Problem<
 }
 
 // The text of --key, which has to be given.
-pub fn key_of<'a>(line: &CommandLine<'a>) -> Result<&'a str, Problem<'a>>
+pub fn key_of<'a>(line: &CommandLine<'_, 'a>) -> Result<&'a str, Problem<'a>>
     ensures value { IfOk result (λ k. texts Kind.Key line.now ≡ k.now ∷ []) }
     ensures refused { IfErr result (λ _. length (texts Kind.Key line.now) ≢ 1) }
 {

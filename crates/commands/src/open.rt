@@ -17,7 +17,7 @@ pub struct OpenCommand<'a> {
 }
 
 // What is asked but for the pairs that the context has to hold.
-pub fn open_command<'a>(line: &CommandLine<'a>) -> Result<OpenCommand<'a>, Problem<'a>>
+pub fn open_command<'a>(line: &CommandLine<'_, 'a>) -> Result<OpenCommand<'a>, Problem<'a>>
     ensures value { IfOk result (λ c. OpenGiven line.now c) }
 {
     let key = key_of(line)?;
@@ -32,7 +32,7 @@ pub fn open_command<'a>(line: &CommandLine<'a>) -> Result<OpenCommand<'a>, Probl
 }
 
 // INPUT, whose header is to be shown, for which nothing else is needed.
-pub fn header_command<'a>(line: &CommandLine<'a>) -> Result<&'a str, Problem<'a>>
+pub fn header_command<'a>(line: &CommandLine<'_, 'a>) -> Result<&'a str, Problem<'a>>
     ensures value { IfOk result (λ f. texts Kind.Operand line.now ≡ f.now ∷ []) }
 {
     if line.len() != 2 {

@@ -1,5 +1,4 @@
-// What can go wrong, as one line for a person. The impls are by hand: the programs depend on no crate from outside, and the `From` that
-// `thiserror` writes has no contract.
+// What can go wrong, as one line for a person. `Display` and `From` are by hand: no derive of std's makes either.
 use crate::limits::{MAX_FRAME_LENGTH, MAX_HEADER, MAX_TEXT};
 use cli::context::AddError;
 use cli::options::Kind;

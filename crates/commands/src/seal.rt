@@ -22,7 +22,7 @@ pub struct SealCommand<'a> {
     pub output: &'a str,
 }
 
-fn frame_length_of<'a>(line: &CommandLine<'a>) -> Result<u32, Problem<'a>>
+fn frame_length_of<'a>(line: &CommandLine<'_, 'a>) -> Result<u32, Problem<'a>>
     ensures value { IfOk result (λ n. Some n ≡ frame_length_of (texts Kind.FrameLength line.now)) }
     ensures refused { IfErr result (λ _. frame_length_of (texts Kind.FrameLength line.now) ≡ None) }
 {
@@ -32,7 +32,7 @@ fn frame_length_of<'a>(line: &CommandLine<'a>) -> Result<u32, Problem<'a>>
     parse_number(text.as_bytes(), 1, MAX_FRAME_LENGTH).map_err(|_| Problem::FrameLength)
 }
 
-fn id_of<'a>(line: &CommandLine<'a>) -> Result<Option<[u8; 32]>, Problem<'a>>
+fn id_of<'a>(line: &CommandLine<'_, 'a>) -> Result<Option<[u8; 32]>, Problem<'a>>
     ensures value { IfOk result (λ o. Some o ≡ id_of (texts Kind.Id line.now)) }
     ensures refused { IfErr result (λ _. id_of (texts Kind.Id line.now) ≡ None) }
 {
@@ -44,7 +44,7 @@ fn id_of<'a>(line: &CommandLine<'a>) -> Result<Option<[u8; 32]>, Problem<'a>>
 
 // What is asked but for the context and the encrypted data keys. It isn't made of `open_command`: the words are looked at in this order,
 // which decides what is complained of first.
-pub fn seal_command<'a>(line: &CommandLine<'a>) -> Result<SealCommand<'a>, Problem<'a>>
+pub fn seal_command<'a>(line: &CommandLine<'_, 'a>) -> Result<SealCommand<'a>, Problem<'a>>
     ensures value { IfOk result (λ s. SealGiven line.now s) }
 {
     let key = key_of(line)?;

@@ -6,24 +6,23 @@ use std::path::Path;
 use std::{fs, io};
 
 #[derive(Drop)]
-pub struct NewFile<'a> {
+pub struct NewFile {
     file: File,
     path: String,
-    place: &'a str,
 }
 
-impl<'a> NewFile<'a> {
+impl NewFile {
     // A file that wasn't there, in the folder of its place.
-    pub fn create(rt: &HostRuntime, place: &'a str) -> io::Result<NewFile<'a>> {
+    pub fn create(rt: &HostRuntime, place: &str) -> io::Result<NewFile> {
         let mark = u64::from_be_bytes(random(rt)?);
         let path = format!(in rt.alloc(); "{place}.{mark:016x}.tmp")?;
         let file = File::create_new(rt, path.as_str())?;
-        Ok(NewFile { file, path, place })
+        Ok(NewFile { file, path })
     }
 
     // Puts it in its place, which nothing else may have unless it is to be replaced. Where that fails, nothing is left of it.
-    pub fn finish(self, rt: &HostRuntime, replace: bool) -> io::Result<()> {
-        let settled = self.settle(rt, replace);
+    pub fn finish(self, rt: &HostRuntime, place: &str, replace: bool) -> io::Result<()> {
+        let settled = self.settle(rt, place, replace);
         if settled.is_err() {
             self.discard(rt);
         }
@@ -34,20 +33,20 @@ impl<'a> NewFile<'a> {
         let _ = fs::remove_file(rt, self.path.as_str());
     }
 
-    fn settle(&self, rt: &HostRuntime, replace: bool) -> io::Result<()> {
+    fn settle(&self, rt: &HostRuntime, place: &str, replace: bool) -> io::Result<()> {
         self.file.sync_all()?;
         if replace {
-            fs::rename(rt, self.path.as_str(), self.place)?;
+            fs::rename(rt, self.path.as_str(), place)?;
         } else {
-            take_place(rt, self.path.as_str(), self.place)?;
+            take_place(rt, self.path.as_str(), place)?;
         }
         // The file is whole and in its place; that the folder is synced too is not always to be had.
-        let _ = sync_folder(rt, self.place);
+        let _ = sync_folder(rt, place);
         Ok(())
     }
 }
 
-impl Write for NewFile<'_> {
+impl Write for NewFile {
     fn write(&mut self, bytes: &[u8]) -> io::Result<usize> {
         self.file.write(bytes)
     }
@@ -84,7 +83,7 @@ mod tests {
     fn made(rt: &HostRuntime, place: &str, text: &str, replace: bool) -> io::Result<()> {
         let mut file = NewFile::create(rt, place)?;
         file.write_all(text.as_bytes())?;
-        file.finish(rt, replace)
+        file.finish(rt, place, replace)
     }
 
     #[test]

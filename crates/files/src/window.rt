@@ -1,4 +1,4 @@
-// Bytes of a file that were read and not taken yet, in memory of a fixed size.
+// Bytes of a file that were read and not taken yet. They may be secret, so they stand in memory of a fixed size, which is wiped whole.
 ghost use Rattle.std.specs.Prelude.{◌≡◌, ◌<◌, ◌≤◌, ◌↔◌, [], length, drop, IfSome, IsTrue, IsSome, OnOk, OnErr};
 ghost use Rattle.std.specs.Io.{StartsWith};
 ghost use Rattle.std.specs.Io.KnownBytes.{Consumes, IsAtEnd};

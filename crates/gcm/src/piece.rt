@@ -9,7 +9,7 @@ use crate::tag::compute_tag;
 use octets::equal_fixed;
 
 // The tag isn't right, or the lent bytes aren't as long as the ciphertext.
-#[derive(Clone, Copy, Debug, PartialEq)]
+#[derive(Clone, Copy, Debug, PartialEq, Eq)]
 pub struct NotOpened;
 
 // Writes the ciphertext over all of `out` and gives the tag; None where `out` isn't as long as the text, and then

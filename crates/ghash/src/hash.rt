@@ -27,7 +27,7 @@ fn filled(bytes: &[u8]) -> [u8; 16]
     block
 }
 
-// All of `bytes`, with zeros up to a whole block.
+// All of `bytes`, with zeros up to a whole block. They are additional data or ciphertext, so public, and gone through by an iterator.
 pub fn hash_padded(table: &Table, state: Element, bytes: &[u8]) -> Element
     ensures value { value result ≡ ghash (length (zero_padded bytes.now) / 16) (hash_key_of table.now) (value state) (zero_padded bytes.now) }
 {

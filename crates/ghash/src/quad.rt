@@ -46,7 +46,8 @@ impl Quad {
         d: 0,
     };
 
-    // The sum with `v` where the bit is 1, else the quad as it is.
+    // The sum with `v` where the bit is 1, else the quad as it is. `Element` has the same over its own two words: one for both would be
+    // over a trait of words, and longer than the two.
     pub fn add_masked(self, v: Quad, bit: u32) -> Quad
         requires { bit < 2 }
         ensures { quad_value result ≡ pick (bit == 1) (bits_xor 128 (quad_value self) (quad_value v)) (quad_value self) }

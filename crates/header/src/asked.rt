@@ -27,7 +27,7 @@ pub struct Header<'c, 'n, 'v, 'e, 'p, 'o, 'w> {
 }
 
 impl<'c, 'n, 'v, 'e, 'p, 'o, 'w> Header<'c, 'n, 'v, 'e, 'p, 'o, 'w> {
-    // what a request asks for, or the refusal by the first check that it fails
+    // what a request asks for, or the refusal by the first check that it fails; each check hands its value on or goes by `let .. else`
     #[tactic(auto, unfolding(octets::specs::Bits::pick, format::specs::Request::end_marker))]
     pub fn checked(
         asked: HeaderRequest<'_, 'c, 'n, 'v, 'e, 'p, 'o, 'w>,

@@ -38,7 +38,7 @@ pub fn check_header(header: HeaderRequest) -> Result<CheckedHeader, SealRefusal>
     })
 }
 
-// a whole request
+// a whole request; refusals go by `let .. else`
 #[tactic(auto, unfolding(octets::specs::Bits::pick, format::specs::Request::end_marker))]
 pub fn check(request: Request) -> Result<Checked, SealRefusal>
     ensures value { answer_number result ≡ seal_refusal (request_of request.entry) }

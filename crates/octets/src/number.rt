@@ -18,6 +18,7 @@ pub trait Word<const N: usize>: Copy {
     ghost few: { N < 9223372036854775808 };
 }
 
+// One impl for each width: no macro writes an impl here.
 impl Word<2> for u16 {
     ghost value = { λ n. n };
 

@@ -4,7 +4,7 @@ ghost use Rattle.octets.specs.Bytes.{to_bytes};
 ghost use Rattle.octets.specs.Writing.{Starts, Writes, KeepsAtNone};
 
 use crate::number::Word;
-use crate::write::{put, put_number};
+use crate::write::put;
 
 // The next bytes go to the place `at`.
 #[derive(Drop)]
@@ -29,13 +29,11 @@ impl<'o> Writer<'o> {
         Some(())
     }
 
-    // The same for a number in its bytes, the high one first. Each of the two is one call of the function of its
-    // name, so that there is one way to write either.
+    // The same for a number in its bytes, the high one first.
     pub fn put_number<T: Word<N>, const N: usize>(&mut self, n: T) -> Option<()>
         ensures value { Writes self.old (to_bytes N (T.value n)) result self.new }
         ensures keeps { KeepsAtNone self.old result self.new }
     {
-        self.at = put_number(self.out, self.at, n)?;
-        Some(())
+        self.put(&n.to_bytes())
     }
 }

@@ -41,7 +41,7 @@ Opens the message INPUT into the file OUTPUT, and prints its encryption context.
   --help                print this
   --version             print the version";
 
-    fn run<'a>(rt: &HostRuntime, line: &CommandLine<'a>) -> Result<(), Problem<'a>> {
+    fn run<'a>(rt: &HostRuntime, line: &CommandLine<'_, 'a>) -> Result<(), Problem<'a>> {
         if is_given(line, Kind::Header)? {
             let input = header_command(line)?;
             return print_header(rt, input);

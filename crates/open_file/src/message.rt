@@ -87,7 +87,7 @@ struct Frames<'a> {
 }
 
 impl<'a> Frames<'a> {
-    // One frame a turn, until the end.
+    // One frame a turn, until the end: at most one for each byte of text, a final one without, and a turn that finds the end.
     fn pass<W: Write>(&mut self, opener: &mut Opener, out: &mut W) -> Result<(), Problem<'a>> {
         let too_long = Problem::LongMessage(self.command.input);
         let mut left = MAX_TEXT;

@@ -19,7 +19,7 @@ pub struct Opened<'m> {
     pub len: usize,
 }
 
-// The text, from the front of enough lent bytes on.
+// The text, from the front of enough lent bytes on. A refusal goes by `let .. else`.
 fn open_message<'m>(
     key: &[u8; 32],
     message: &'m [u8],

@@ -12,7 +12,7 @@ use header_read::read_header;
 use octets::clear;
 
 impl Opener {
-    // Begins with bytes that a header and its tag stand at the front of.
+    // Begins with bytes that a header and its tag stand at the front of. Refusals go by `let .. else`, here and below.
     pub fn new(key: &[u8; 32], bytes: &[u8]) -> Result<Opener, OpenRefusal>
         ensures value { Begins key.now bytes.now result }
     {
@@ -66,7 +66,6 @@ impl Opener {
             return Err(OpenRefusal::OutTooShort);
         }
         let cipher = &self.unlocked.cipher;
-        // Refusals go by `let .. else`.
         let Ok(()) = cipher.open_frame(self.number, frame, &mut out[0..len]) else {
             return Err(OpenRefusal::FrameTag(self.number));
         };

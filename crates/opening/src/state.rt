@@ -10,14 +10,14 @@ pub struct Opener {
     pub(crate) done: bool,
 }
 
-// A frame that was opened: the length of its text, and how many of the lent bytes it took.
-#[derive(Clone, Copy, Debug, PartialEq)]
+// A frame that was opened: the length of its text, which stands in the caller's bytes, and how many of the lent bytes it took.
+#[derive(Clone, Copy, Debug, PartialEq, Eq)]
 pub struct FrameText {
     pub len: usize,
     pub taken: usize,
 }
 
-#[derive(Clone, Copy, Debug, PartialEq)]
+#[derive(Clone, Copy, Debug, PartialEq, Eq)]
 pub enum Step {
     // the frame may be longer than the bytes that were lent
     NeedMore,

@@ -15,6 +15,7 @@ pub fn open_frames(unlocked: &Unlocked, bytes: &[u8], out: &mut [u8]) -> Result<
     let mut rest = bytes;
     let mut number = 1u32;
     let mut at = 0;
+    // left by its label at the first frame that isn't whole or right
     let refusal = 'frames: loop {
         let Some(frame) = read_frame(unlocked.frame_length, number, rest) else {
             break 'frames OpenRefusal::Frame(number);

@@ -40,7 +40,11 @@ where
 }
 
 // The key in a file, into lent bytes; what was read is wiped.
-fn read_key<'a>(rt: &HostRuntime, path: &'a str, key: &mut [u8; 32]) -> Result<(), Problem<'a>> {
+pub fn read_key<'a>(
+    rt: &HostRuntime,
+    path: &'a str,
+    key: &mut [u8; 32],
+) -> Result<(), Problem<'a>> {
     let mut bytes = [0; 66];
     let found = key_in(rt, path, &mut bytes);
     wipe(rt, &mut bytes);

@@ -25,7 +25,7 @@ pub fn check_output<'a>(rt: &HostRuntime, path: &'a str, force: bool) -> Result<
 // OUTPUT as it is written: under a name of its own until it is whole.
 #[derive(Drop)]
 pub struct Output<'a> {
-    file: NewFile<'a>,
+    file: NewFile,
     path: &'a str,
     force: bool,
 }
@@ -47,7 +47,7 @@ impl<'a> Output<'a> {
     {
         let Output { file, path, force } = self;
         match done {
-            Ok(value) => finish(rt, file, path, force).map(|()| value),
+            Ok(value) => finish_output(rt, file, path, force).map(|()| value),
             Err(problem) => {
                 file.discard(rt);
                 Err(problem)
@@ -66,13 +66,14 @@ impl Write for Output<'_> {
     }
 }
 
-fn finish<'a>(
+// Puts a file that is whole in its place; where that fails, nothing is left of it.
+pub fn finish_output<'a>(
     rt: &HostRuntime,
-    file: NewFile<'a>,
+    file: NewFile,
     path: &'a str,
     force: bool,
 ) -> Result<(), Problem<'a>> {
-    match file.finish(rt, force) {
+    match file.finish(rt, path, force) {
         Err(error) if error.kind() == io::ErrorKind::AlreadyExists => Err(Problem::Exists(path)),
         finished => finished.writing(path),
     }

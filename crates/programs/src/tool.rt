@@ -19,7 +19,7 @@ pub trait Tool {
 
     const HELP: &'static str;
 
-    fn run<'a>(rt: &HostRuntime, line: &CommandLine<'a>) -> Result<(), Problem<'a>>;
+    fn run<'a>(rt: &HostRuntime, line: &CommandLine<'_, 'a>) -> Result<(), Problem<'a>>;
 }
 
 // The whole program: whatever it can't do is one line on standard error.
@@ -48,7 +48,8 @@ fn words(rt: &HostRuntime) -> Result<Vec<String>, Problem<'static>> {
 }
 
 fn run_words<'a, T: Tool>(rt: &HostRuntime, words: &'a [String]) -> Result<(), Problem<'a>> {
-    let line = scan(rt.alloc(), T::PROGRAM, words)?;
+    let given = scan(rt.alloc(), T::PROGRAM, words)?;
+    let line = CommandLine::of(given.as_slice());
     if is_given(&line, Kind::Help)? {
         return say(rt, T::HELP);
     }

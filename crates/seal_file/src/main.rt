@@ -42,7 +42,7 @@ Seals the file INPUT into a message, the file OUTPUT.
   --help                print this
   --version             print the version";
 
-    fn run<'a>(rt: &HostRuntime, line: &CommandLine<'a>) -> Result<(), Problem<'a>> {
+    fn run<'a>(rt: &HostRuntime, line: &CommandLine<'_, 'a>) -> Result<(), Problem<'a>> {
         let command = seal_command(line)?;
         let context = context_of(rt.alloc(), line)?;
         let data_keys = data_keys_of(rt.alloc(), line)?;

@@ -108,7 +108,8 @@ struct Frames<'a> {
 }
 
 impl<'a> Frames<'a> {
-    // One frame a turn, until the final one.
+    // One frame a turn, until the final one; each but that has some text, so there are no more turns than bytes. OUTPUT is lent anew at each
+    // call, since no struct holds it lent.
     fn write(&mut self, output: &mut Output<'a>) -> Result<(), Problem<'a>> {
         for _ in 0..MAX_TEXT {
             let kind = self.write_next(output)?;

@@ -3,8 +3,8 @@ ghost use Rattle.std.specs.Prelude.{◌≡◌, ◌<◌, length};
 
 use frames::MessageCipher;
 
-// A message that is being sealed; number is that of the next frame, and of the final one once it was sealed: an enum of the two
-// states would hold it in both.
+// A message that is being sealed; number is that of the next frame. Whether the final one was sealed stands apart: the key is
+// overwritten in place then, and an enum of the two states would move it.
 #[derive(Drop)]
 pub struct Sealer {
     pub(crate) cipher: MessageCipher,

@@ -49,6 +49,5 @@ returns c =
     record {
       value =
           sym c.loop-word.invariant
-          ∙ words_done c.args.program c.loop-word.expects c.args.words.now c.loop-word.word-index (map item (vec_items c.loop-word.all)) c.loop-word-test.false c.in_default-expects.not-ValueOf
-          ∙ ap Ok (sym c.of.ensures.value);
+          ∙ words_done c.args.program c.loop-word.expects c.args.words.now c.loop-word.word-index _ c.loop-word-test.false c.in_default-expects.not-ValueOf;
     }
