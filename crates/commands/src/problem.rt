@@ -31,7 +31,8 @@ pub enum Problem<'a> {
     Exists(&'a str),
     NoFile(&'a str),
     File(Action, &'a str, io::Error),
-    // a message that isn't opened: which refusal, at which frame if at one, and what it means
+    // a message that isn't opened: which refusal, by its number, at which frame if at one, and what it means; the library's own type isn't
+    // known to this crate
     Refused {
         number: u8,
         frame: Option<u32>,

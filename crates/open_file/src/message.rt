@@ -6,9 +6,10 @@ use commands::open::OpenCommand;
 use commands::problem::Problem;
 use files::read::{read_full, wipe};
 use files::window::Window;
+use frames::FrameKind;
 use header_front::{HeaderFront, header_front};
 use opening::{OpenRefusal, Opener, Step};
-use programs::{FINAL_BESIDE, FileResult, START_ROOM, TEXT_ROOM};
+use programs::{FileResult, START_ROOM, TEXT_ROOM};
 use std::fs::File;
 use std::io::Write;
 
@@ -62,10 +63,9 @@ fn pass_frames<'a, W: Write>(
     out: &mut W,
 ) -> Result<[u8; 64], Problem<'a>> {
     let frame_length = opener.frame_length();
-    let window = Window::new(frame_length as usize + FINAL_BESIDE).ok_or(Problem::LongFrames(
-        command.input,
-        frame_length,
-    ))?;
+    let window = Window::new(frame_length as usize + FrameKind::Final.overhead()).ok_or(
+        Problem::LongFrames(command.input, frame_length),
+    )?;
     let source = Source::after(rt, file, header, window).reading(command.input)?;
     let mut frames = Frames {
         command,
@@ -100,7 +100,8 @@ impl<'a> Frames<'a> {
         Err(too_long)
     }
 
-    // The next frame's text handed on, and its length; None at the end. The source holds as many bytes as the longest frame has, so a
+    // The next frame's text handed on, and its length; None at the end. Opener and `out` are lent anew at each call, since no struct holds
+    // them lent. The source holds as many bytes as the longest frame has, so a
     // frame stands there whole or the file ends.
     fn pass_next<W: Write>(
         &mut self,
@@ -114,6 +115,7 @@ impl<'a> Frames<'a> {
             .map_err(refused)?;
         let frame = match step {
             Step::Regular(frame) | Step::Final(frame) => frame,
+            // not asked for where the source holds the longest frame; then the turns end it
             Step::NeedMore => return Ok(Some(0)),
             Step::End => return Ok(None),
         };

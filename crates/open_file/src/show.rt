@@ -3,8 +3,9 @@ use crate::escaped::{Escaped, EscapedPair};
 use crate::message::no_header;
 use commands::problem::Problem;
 use files::read::read_start;
+use frames::FrameKind;
 use header_read::{Context, EncryptedDataKeys, Header, read_header};
-use programs::{FINAL_BESIDE, FileResult, REGULAR_BESIDE, START_ROOM, input_len, say};
+use programs::{FileResult, START_ROOM, input_len, say};
 use std::fmt;
 
 // A header with how many bytes it has with its tag, and the message.
@@ -31,9 +32,9 @@ pub fn print_header<'a>(rt: &HostRuntime, path: &'a str) -> Result<(), Problem<'
 
 // How many frames so many bytes are, if they are frames; only the final one may have less text than the others.
 fn frames_in(len: u64, frame_length: u32) -> Option<u64> {
-    let beside_final = len.checked_sub(FINAL_BESIDE as u64)?;
+    let beside_final = len.checked_sub(FrameKind::Final.overhead() as u64)?;
     let longest_text = frame_length as u64;
-    let regular = longest_text + REGULAR_BESIDE as u64;
+    let regular = longest_text + FrameKind::Regular.overhead() as u64;
     (beside_final % regular <= longest_text).then_some(beside_final / regular + 1)
 }
 

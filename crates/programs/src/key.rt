@@ -7,7 +7,8 @@ use cli::key::parse_key;
 use commands::problem::Problem;
 use files::read::{read_start, wipe};
 
-// What run makes with the key in a file, which is wiped afterwards.
+// What run makes with the key in a file, which is wiped afterwards. Wiping goes by hand here and in both programs: no bound on a function
+// names a const parameter, as one for any length of bytes would.
 pub fn with_key<'a, T, F: FnOnce(&[u8; 32]) -> T>(
     rt: &HostRuntime,
     path: &'a str,

@@ -13,5 +13,5 @@ pub use file_result::FileResult;
 pub use input::input_len;
 pub use key::{read_key, with_key};
 pub use output::{Output, check_output, finish_output, say};
-pub use rooms::{FINAL_BESIDE, FRAME_ROOM, REGULAR_BESIDE, START_ROOM, TEXT_ROOM};
+pub use rooms::{FRAME_ROOM, START_ROOM, TEXT_ROOM};
 pub use tool::{Tool, run_tool};

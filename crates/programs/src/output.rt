@@ -17,7 +17,7 @@ pub fn check_output<'a>(rt: &HostRuntime, path: &'a str, force: bool) -> Result<
         Ok(None) if force => Err(Problem::NoFile(path)),
         Ok(_) => Err(Problem::Exists(path)),
         Err(error) if error.kind() == io::ErrorKind::NotFound => Ok(()),
-        // Not by `reading`: of the errors one is none.
+        // not by `reading`, since one of the errors is what is wished
         Err(error) => Err(Problem::File(Action::Read, path, error)),
     }
 }
@@ -66,7 +66,7 @@ impl Write for Output<'_> {
     }
 }
 
-// Puts a file that is whole in its place; where that fails, nothing is left of it.
+// Puts a file that is whole in its place; where that fails, nothing is left of it. One of the errors has a problem of its own.
 pub fn finish_output<'a>(
     rt: &HostRuntime,
     file: NewFile,

@@ -33,7 +33,7 @@ pub fn read_data_keys<'a>(
         .try_collect(rt.alloc())
 }
 
-// The encrypted data keys with their bytes.
+// The encrypted data keys with their bytes: by hand, as no `From` is between two types that are both another crate's.
 pub fn encrypted_keys<'a, 'c>(
     rt: &HostRuntime,
     words: &[DataKeyWord<'a>],

@@ -30,6 +30,7 @@ impl Sealed {
     }
 }
 
+// The library's calls are one for each kind, with a contract each.
 fn seal_frame(
     sealer: &mut Sealer,
     kind: FrameKind,

@@ -82,7 +82,7 @@ pub fn seal_case(words: &mut Words) -> anyhow::Result<bool> {
     sealed_is(request, room_for(request, room)?, words)
 }
 
-// As many bytes as the word says, or for `?` as the message has.
+// As many bytes as the word says, or for `?` as the message has, and none where it is refused, which the case then looks at.
 fn room_for(request: Request, room: &str) -> anyhow::Result<usize> {
     let len = match room {
         "?" => strongbox::sealed_len(request).unwrap_or(0),

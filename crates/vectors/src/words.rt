@@ -129,7 +129,7 @@ where
 impl<'w, T: FromWords<'w>> FromWords<'w> for Vec<T> {
     fn from_words(words: &mut Words<'w>) -> anyhow::Result<Vec<T>> {
         let mut list = Vec::new(words.heap);
-        // A loop, since a closure that reads words gets no proof yet.
+        // A loop: a closure that reads words isn't proved.
         for _ in 0..words.read::<u64>()? {
             list.push(words.read()?)?;
         }
