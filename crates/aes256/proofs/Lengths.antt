@@ -1,7 +1,9 @@
--- How long what the definitions give is: 240 bytes of round keys from 32 of key, and 16 of a block.
-use Rattle.std.proofs.Common.{◌≡◌, ℕ, zero, suc, ◌+◌, ◌-◌, ◌*◌, ◌/◌, ◌%◌, ◌<◌, ◌≤◌, Bool, true, false, eqb, List, [], ◌∷◌, ◌++◌, length, refl, ap, ◌∙◌, arith, length-append}
-use Rattle.octets.specs.Bits.{pick}
-use Rattle.octets.specs.Bytes.{take, drop, xor_bytes}
+-- How long what the definitions give is: 240 bytes of round keys from 32 of key, and 16 of a block; and that those are bytes.
+use Rattle.std.proofs.Common.{◌≡◌, ℕ, zero, suc, ◌+◌, ◌-◌, ◌*◌, ◌/◌, ◌%◌, ◌<◌, ◌≤◌, Bool, true, false, ◌&&◌, eqb, List, [], ◌∷◌, ◌++◌, length, refl, ap, ◌∙◌, ap₂, arith, length-append}
+use Rattle.std.proofs.lemmas.Bool.{lt-ltb}
+use Rattle.octets.specs.Bits.{pick, bits_xor}
+use Rattle.octets.specs.Bytes.{take, drop, xor_bytes, all_bytes}
+use Rattle.octets.proofs.Bits.{bits_xor_lt}
 use Rattle.octets.proofs.Lists.{length-take, length-drop}
 use Rattle.octets.proofs.XorBytes.{length-xor}
 use Rattle.aes256.specs.Aes.{aes, cipher_rounds, expand_words, joined, key_words, mix_columns, next_word, rcon, rot_word, round_keys, shift_rows, sub_bytes, word_at}
@@ -19,6 +21,22 @@ unfolding aes
 length-aes ks b h =
     let l : length (drop 16 ks) ≡ length ks - 16 = length-drop 16 ks in
     length_rounds 13 (drop 16 ks) (xor_bytes b ks) (omega arith)
+
+-- and they are bytes
+xor_all_bytes : (xs ys : List ℕ) → all_bytes (xor_bytes xs ys) ≡ true
+unfolding all_bytes xor_bytes
+xor_all_bytes [] ys = refl
+xor_all_bytes (x ∷ xs) [] = refl
+xor_all_bytes (x ∷ xs) (y ∷ ys) = ap₂ ◌&&◌ (lt-ltb (bits_xor 8 x y) 256 (bits_xor_lt 8 x y)) (xor_all_bytes xs ys)
+
+all_bytes_rounds : (n : ℕ) (ks s : List ℕ) → all_bytes (cipher_rounds n ks s) ≡ true
+unfolding cipher_rounds
+all_bytes_rounds zero ks s = xor_all_bytes (shift_rows (sub_bytes s)) ks
+all_bytes_rounds (suc n) ks s = all_bytes_rounds n (drop 16 ks) (xor_bytes (mix_columns 4 (shift_rows (sub_bytes s))) ks)
+
+pub all_bytes-aes : (ks b : List ℕ) → all_bytes (aes ks b) ≡ true
+unfolding aes
+all_bytes-aes ks b = all_bytes_rounds 13 (drop 16 ks) (xor_bytes b ks)
 
 -- words of four bytes
 abbrev Fours : List (List ℕ) → Type 0

@@ -1,10 +1,12 @@
 -- Words of 32 bits and their four bytes: each comes back from the other, and `^` goes byte by byte.
-use Rattle.std.proofs.Common.{◌≡◌, ℕ, ◌+◌, ◌*◌, ◌/◌, ◌%◌, ◌<◌, ◌≤◌, List, [], ◌∷◌, ◌++◌, length, get_or, drop as ldrop, sym, refl, ap, ◌∙◌, ap₂, arith}
+use Rattle.std.proofs.Common.{◌≡◌, ℕ, ◌+◌, ◌*◌, ◌/◌, ◌%◌, ◌<◌, ◌≤◌, List, [], ◌∷◌, ◌++◌, length, get_or, take, drop as ldrop, sym, refl, ap, ◌∙◌, ap₂, arith}
 use lib.Bits.{bit_xor, xor_block, xor_lt}
 use Rattle.std.proofs.lemmas.List.{drop_more, drop_all}
 use Rattle.std.proofs.lemmas.Nat.{shr-shr, shr_split}
+use Rattle.std.specs.Simd.{first_chunks}
 use Rattle.octets.specs.Bytes.{xor_bytes}
 use Rattle.octets.proofs.Bits.{bits_xor_is}
+use Rattle.octets.proofs.Chunks.{chunk_at}
 use Rattle.aes256.specs.Columns.{word, word_bytes, words_bytes}
 
 pub bytes_of_word : (a b c d : ℕ) → a < 256 → b < 256 → c < 256 → d < 256 → word_bytes (word a b c d) ≡ a ∷ (b ∷ (c ∷ (d ∷ [])))
@@ -85,3 +87,11 @@ module _ (xs : List ℕ) where
   all_sixteen l =
       drop_four xs 0 (omega arith) ∙ ap (with_four 0) (drop_four xs 4 (omega arith) ∙ ap (with_four 4)
       (drop_four xs 8 (omega arith) ∙ ap (with_four 8) (drop_four xs 12 (omega arith) ∙ ap (with_four 12) (drop_all 16 xs (omega arith)))))
+
+-- words that are cut into fours, or bytes, and a word read from four bytes
+pub four_at : (cut : List (List ℕ)) (k i : ℕ) (xs d : List ℕ) → cut ≡ first_chunks 4 k xs → i < k → 4 * k ≤ length xs → get_or cut i d ≡ with_four xs (4 * i) []
+four_at cut k i xs d e h l = ap (λ (c : List (List ℕ)). get_or c i d) e ∙ chunk_at 4 k i xs d h ∙ ap (take 4) (drop_four xs (4 * i) (omega arith))
+
+pub word_at : (w : ℕ) (four xs : List ℕ) (i : ℕ) → four ≡ with_four xs i [] → w ≡ get_or four 0 0 * 16777216 + get_or four 1 0 * 65536 + get_or four 2 0 * 256 + get_or four 3 0
+    → w ≡ word (get_or xs i 0) (get_or xs (i + 1) 0) (get_or xs (i + 2) 0) (get_or xs (i + 3) 0)
+word_at w four xs i e f = f ∙ ap (λ (x : List ℕ). get_or x 0 0 * 16777216 + get_or x 1 0 * 65536 + get_or x 2 0 * 256 + get_or x 3 0) e ∙ omega arith

@@ -1,31 +1,24 @@
 // One block encrypted.
-ghost use Rattle.std.specs.Prelude.{◌≡◌, ◌+◌, ◌*◌, ◌<◌, [], ◌∷◌, bit_xor, slice_index};
+ghost use Rattle.std.specs.Prelude.{◌≡◌};
 ghost use Rattle.octets.specs.Bytes.{xor_bytes};
 ghost use Rattle.aes256.specs.Aes.{aes, round_keys};
-ghost use Rattle.aes256.specs.Columns.{word, words_bytes};
+ghost use Rattle.aes256.specs.Columns.{words_bytes};
 ghost use Rattle.aes256.specs.RoundKeys.{key_of};
 
 use crate::keys::RoundKeys;
 use crate::rounds::{last_round, round};
 
-// column i of a block, and a word of the key added
-fn load_column(b: &[u8; 16], i: usize, k: u32) -> u32
-    requires { i < 4 }
-    ensures { result ≡ bit_xor (word (slice_index b.now (4 * i)) (slice_index b.now (4 * i + 1)) (slice_index b.now (4 * i + 2)) (slice_index b.now (4 * i + 3))) k }
-{
-    u32::from_be_bytes([b[4 * i], b[4 * i + 1], b[4 * i + 2], b[4 * i + 3]]) ^ k
-}
-
 // a block as a state, and the first round key added
 fn load(b: &[u8; 16], k: [u32; 4]) -> [u32; 4]
     ensures { words_bytes result ≡ xor_bytes b.now (words_bytes k) }
 {
+    let (columns, _) = b.as_chunks::<4>();
     let [k0, k1, k2, k3] = k;
     [
-        load_column(b, 0, k0),
-        load_column(b, 1, k1),
-        load_column(b, 2, k2),
-        load_column(b, 3, k3),
+        u32::from_be_bytes(columns[0]) ^ k0,
+        u32::from_be_bytes(columns[1]) ^ k1,
+        u32::from_be_bytes(columns[2]) ^ k2,
+        u32::from_be_bytes(columns[3]) ^ k3,
     ]
 }
 
@@ -42,28 +35,18 @@ fn store(s: [u32; 4]) -> [u8; 16]
     ]
 }
 
-// round key i
-fn round_key(words: &[u32; 60], i: usize) -> [u32; 4]
-    requires { i < 15 }
-    ensures { result ≡ slice_index words.now (4 * i) ∷ (slice_index words.now (4 * i + 1) ∷ (slice_index words.now (4 * i + 2) ∷ (slice_index words.now (4 * i + 3) ∷ []))) }
-{
-    [
-        words[4 * i],
-        words[4 * i + 1],
-        words[4 * i + 2],
-        words[4 * i + 3],
-    ]
-}
-
 fn encrypt_words(words: &[u32; 60], block: [u8; 16]) -> [u8; 16]
     ensures { result ≡ aes (words_bytes words.now) block }
 {
-    let mut s = load(&block, round_key(words, 0));
+    let (keys, _) = words.as_chunks::<4>();
+    let mut s = load(&block, keys[0]);
+    // By number: states and keys are secret, and no iterator runs over them.
     for i in 1..14 {
-        let next = round(s, round_key(words, i));
+        // By way of a `let`: a call's result that is an array isn't proved where it goes right into `s`.
+        let next = round(s, keys[i]);
         s = next;
     }
-    store(last_round(s, round_key(words, 14)))
+    store(last_round(s, keys[14]))
 }
 
 pub fn encrypt_block(keys: &RoundKeys, block: [u8; 16]) -> [u8; 16]

@@ -4,7 +4,8 @@ ghost use Rattle.octets.specs.Bytes.{take};
 ghost use Rattle.aes256.specs.Aes.{round_keys};
 ghost use Rattle.aes256.specs.Columns.{words_bytes};
 
-// The fifteen round keys of a key, which is their first eight words. No other words can be in here.
+// The fifteen round keys of a key, which is their first eight words. No other words can be in here. They are one array of
+// words, and not fifteen of four, since the schedule makes each word from the ones one and eight before.
 #[derive(Drop)]
 pub struct RoundKeys {
     pub(crate) words: [u32; 60],

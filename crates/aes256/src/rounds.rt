@@ -1,4 +1,5 @@
-// The rounds, on states of four words, a column each.
+// The rounds, on states of four words, a column each. They don't share a closure for the column: a clause would have to
+// say each of the four calls that stand there.
 ghost use Rattle.std.specs.Prelude.{◌≡◌};
 ghost use Rattle.octets.specs.Bytes.{xor_bytes};
 ghost use Rattle.aes256.specs.Aes.{sub_bytes, shift_rows, mix_columns};

@@ -1,8 +1,8 @@
 // The key schedule.
-ghost use Rattle.std.specs.Prelude.{◌≡◌, ◌+◌, ◌*◌, ◌<◌, ◌≤◌, slice_index};
+ghost use Rattle.std.specs.Prelude.{◌≡◌, ◌<◌, ◌≤◌};
 ghost use Rattle.octets.specs.Bytes.{take, repeat};
 ghost use Rattle.aes256.specs.Aes.{round_keys};
-ghost use Rattle.aes256.specs.Columns.{word, word_bytes, words_bytes};
+ghost use Rattle.aes256.specs.Columns.{word_bytes, words_bytes};
 ghost use Rattle.aes256.specs.Schedule.{next_of};
 ghost use Rattle.aes256.specs.RoundKeys.{key_of};
 
@@ -25,20 +25,16 @@ fn next_word(prev: u32, old: u32, i: usize) -> u32
     }
 }
 
-fn key_word(key: &[u8; 32], i: usize) -> u32
-    requires { i < 8 }
-    ensures { result ≡ word (slice_index key.now (4 * i)) (slice_index key.now (4 * i + 1)) (slice_index key.now (4 * i + 2)) (slice_index key.now (4 * i + 3)) }
-{
-    u32::from_be_bytes([key[4 * i], key[4 * i + 1], key[4 * i + 2], key[4 * i + 3]])
-}
-
-// the key in the first eight words
+// the key in the first eight words; sha512 reads its words alike, but one function for both would be told width and room, and be no
+// shorter
 fn first_words(key: &[u8; 32]) -> [u32; 60]
     ensures { words_bytes (take 8 result) ≡ key.now }
 {
+    let (columns, _) = key.as_chunks::<4>();
     let mut w = [0; 60];
+    // By place: a key is secret.
     for i in 0..8 {
-        w[i] = key_word(key, i);
+        w[i] = u32::from_be_bytes(columns[i]);
     }
     w
 }
@@ -48,6 +44,7 @@ fn expand_words(first: [u32; 60]) -> [u32; 60]
     ensures { (take 8 result ≡ take 8 first) × (words_bytes result ≡ round_keys (words_bytes (take 8 first))) }
 {
     let mut w = first;
+    // By place: each word comes from two before it.
     for i in 8..60 {
         w[i] = next_word(w[i - 1], w[i - 8], i);
     }

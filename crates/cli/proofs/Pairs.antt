@@ -1,70 +1,69 @@
 -- A pair in its place: where it goes, and that names in order stay so.
-use Rattle.std.proofs.Common.{◌≡◌, ℕ, suc, ◌+◌, ◌<◌, ◌≤◌, Bool, true, false, cond, ◌&&◌, List, [], ◌∷◌, ◌++◌, map, length, get_or, take, drop, Some, None, Option, sym, refl, ap, ◌∙◌, subst, ap₂, arith}
-use Rattle.std.proofs.lemmas.List.{at_drop_more, at_drop_all, take-map, drop-map, map-append, get_or-map, length-map}
+use Rattle.std.proofs.Common.{◌≡◌, ℕ, zero, suc, ◌<◌, ◌≤◌, Bool, true, false, not, cond, ◌&&◌, List, [], ◌∷◌, map, length, get_or, Some, None, Option, eqb, sym, refl, ap, ◌∙◌, arith}
 use Rattle.std.proofs.lemmas.Bool.{cond-true, cond-false, and_parts, and_from}
-use Rattle.std.specs.List.{insert}
-use Rattle.std.specs.Option.{option_map}
+use Rattle.std.proofs.lemmas.Bool.Decides.{nat_tests}
+use Rattle.std.proofs.lemmas.Cmp.{same_from_slice_cmp}
+use Rattle.std.specs.Cmp.Lexicographic.{slice_cmp}
+use Rattle.std.specs.List.{insert, AllWithin, HoldsAt}
+use Rattle.std.specs.Option.{option_map, unwrap_or, MatchOption}
+use Rattle.std.specs.Ordering.{nat_cmp, is_ge}
+use Rattle.std.specs.Str.{bytes_eq as texts_eq}
 use Rattle.octets.proofs.Order.{bytes_lt_total}
 use Rattle.octets.specs.Bytes.{bytes_lt, bytes_eq}
 use Rattle.cli.specs.declared.context.Pair.{Pair}
-use Rattle.cli.specs.Context.{NamedValue, pair_of, place_of, with_pair, rising}
+use Rattle.cli.specs.Context.{NamedValue, pair_of, with_pair, rising}
 
--- the place, from some place on
-pub place_more : (n : List ℕ) (ps : List Pair) (i : ℕ) (d : Pair) → i < length ps → bytes_lt (get_or ps i d).name.now n ≡ true → place_of n (map pair_of (drop i ps)) ≡ suc (place_of n (map pair_of (drop (i + 1) ps)))
-unfolding place_of
-place_more n ps i d h e = at_drop_more (λ qs. place_of n (map pair_of qs)) ps i d h ∙ cond-true _ _ _ e
+-- the definitions' tests of two names, by the library's
+at_least : (xs ys : List ℕ) → is_ge (slice_cmp nat_cmp xs ys) ≡ not (bytes_lt xs ys)
+unfolding bytes_lt
+at_least xs ys = same_from_slice_cmp nat_cmp is_ge (λ xs ys. not (bytes_lt xs ys)) refl (λ _ _. refl) (λ _ _. refl) (λ x y xs ys o h. grind (arith, nat_tests)) xs ys (slice_cmp nat_cmp xs ys) refl
 
-pub place_here : (n : List ℕ) (ps : List Pair) (i : ℕ) (d : Pair) → i < length ps → bytes_lt (get_or ps i d).name.now n ≡ false → place_of n (map pair_of (drop i ps)) ≡ 0
-unfolding place_of
-place_here n ps i d h e = at_drop_more (λ qs. place_of n (map pair_of qs)) ps i d h ∙ cond-false _ _ _ e
+pub not_below : (xs ys : List ℕ) → is_ge (slice_cmp nat_cmp xs ys) ≡ true → bytes_lt xs ys ≡ false
+not_below xs ys e = let h = at_least xs ys in grind (arith, h, e)
 
-pub place_end : (n : List ℕ) (ps : List Pair) (i : ℕ) → length ps ≤ i → place_of n (map pair_of (drop i ps)) ≡ 0
-unfolding place_of
-place_end n ps i h = at_drop_all (λ qs. place_of n (map pair_of qs)) ps i h
+pub below : (xs ys : List ℕ) → is_ge (slice_cmp nat_cmp xs ys) ≡ false → bytes_lt xs ys ≡ true
+below xs ys e = let h = at_least xs ys in grind (arith, h, e)
+
+same_name : (xs ys : List ℕ) → texts_eq xs ys ≡ bytes_eq xs ys
+unfolding bytes_eq
+same_name [] [] = refl
+same_name [] (y ∷ ys) = refl
+same_name (x ∷ xs) [] = refl
+same_name (x ∷ xs) (y ∷ ys) = ap (λ b. eqb x y && b) (same_name xs ys)
+
+-- the test of the name at a place, by the library's of the pair that was read there
+pub named : (qs : List Pair) (i : ℕ) (q : Pair) (n : List ℕ) (b : Bool) → q ≡ get_or qs i q → b ≡ texts_eq q.name.now n → bytes_eq (get_or qs i q).name.now n ≡ b
+named qs i q n b e f = ap (λ (r : Pair). bytes_eq r.name.now n) (sym e) ∙ sym (same_name q.name.now n) ∙ sym f
+
+-- where a pair goes: before the first whose name isn't below its own, or at the end
+abbrev pub IsPlace : List ℕ → List Pair → ℕ → Type 0
+IsPlace n qs i = (i ≤ length qs) × AllWithin (λ q. bytes_lt q.name.now n ≡ true) qs 0 i × (i < length qs → HoldsAt (λ q. bytes_lt q.name.now n ≡ false) qs i)
+
+pub first_or_end : (n : List ℕ) (qs : List Pair) (r : Option ℕ)
+    → MatchOption r (AllWithin (λ q. bytes_lt q.name.now n ≡ true) qs 0 (length qs)) (λ i. (i < length qs) × HoldsAt (λ q. bytes_lt q.name.now n ≡ false) qs i × AllWithin (λ q. bytes_lt q.name.now n ≡ true) qs 0 i)
+    → IsPlace n qs (unwrap_or r (length qs))
+first_or_end n qs None h = (omega arith, h, λ l. absurd (omega (arith, l)))
+first_or_end n qs (Some i) h = let l = h.0 in (omega (arith, l), h.2, λ _. h.1)
 
 -- a name that stands at its place is refused
-named_twice : (p : NamedValue) (qs : List NamedValue) (d : NamedValue) → place_of p.name qs < length qs → bytes_eq (get_or qs (place_of p.name qs) d).name p.name ≡ true → with_pair p qs ≡ None
-unfolding place_of with_pair
-named_twice p [] d h e = absurd (omega arith)
-named_twice p (q ∷ qs) d h e = go (named_twice p qs d) (bytes_lt q.name p.name) h e
-  where
-    go : (place_of p.name qs < length qs → bytes_eq (get_or qs (place_of p.name qs) d).name p.name ≡ true → with_pair p qs ≡ None) → (b : Bool) → cond b (suc (place_of p.name qs)) 0 < suc (length qs)
-        → bytes_eq (get_or (q ∷ qs) (cond b (suc (place_of p.name qs)) 0) d).name p.name ≡ true → cond b (option_map (λ rs. q ∷ rs) (with_pair p qs)) (cond (bytes_eq q.name p.name) None (Some (p ∷ (q ∷ qs)))) ≡ None
-    go ih true k f = ap (option_map (λ rs. q ∷ rs)) (ih (omega arith) f)
-    go ih false k f = cond-true _ _ _ f
+pub named_twice : (p : Pair) (qs : List Pair) (i : ℕ) (d : Pair) → IsPlace p.name.now qs i → i < length qs → bytes_eq (get_or qs i d).name.now p.name.now ≡ true → with_pair (pair_of p) (map pair_of qs) ≡ None
+unfolding with_pair
+named_twice p [] i d h l e = absurd (omega arith)
+named_twice p (q ∷ qs) zero d h l e = cond-false _ _ _ (h.2 l q) ∙ cond-true _ _ _ e
+named_twice p (q ∷ qs) (suc i) d h l e =
+    cond-true _ _ _ (h.1 0 q (omega arith) (omega arith))
+    ∙ ap (option_map (λ rs. pair_of q ∷ rs)) (named_twice p qs i d (omega arith, (λ k d a b. h.1 (suc k) d (omega arith) (omega arith)), (λ m. h.2 (omega arith))) (omega arith) e)
 
 -- otherwise the pair goes there
-put_there : (p : NamedValue) (qs : List NamedValue) (d : NamedValue) → (place_of p.name qs < length qs → bytes_eq (get_or qs (place_of p.name qs) d).name p.name ≡ false) → with_pair p qs ≡ Some (insert qs (place_of p.name qs) p)
-unfolding place_of with_pair
-put_there p [] d e = refl
-put_there p (q ∷ qs) d e = go (put_there p qs d) (bytes_lt q.name p.name) e
-  where
-    go : ((place_of p.name qs < length qs → bytes_eq (get_or qs (place_of p.name qs) d).name p.name ≡ false) → with_pair p qs ≡ Some (insert qs (place_of p.name qs) p)) → (b : Bool)
-        → (cond b (suc (place_of p.name qs)) 0 < suc (length qs) → bytes_eq (get_or (q ∷ qs) (cond b (suc (place_of p.name qs)) 0) d).name p.name ≡ false)
-        → cond b (option_map (λ rs. q ∷ rs) (with_pair p qs)) (cond (bytes_eq q.name p.name) None (Some (p ∷ (q ∷ qs)))) ≡ Some (insert (q ∷ qs) (cond b (suc (place_of p.name qs)) 0) p)
-    go ih true f = ap (option_map (λ rs. q ∷ rs)) (ih (λ h. f (omega arith)))
-    go ih false f = cond-false _ _ _ (f (omega arith))
-
--- the same of lent pairs
-named : (ps : List Pair) (k : ℕ) (d : Pair) (n : List ℕ) → k < length ps → bytes_eq (get_or (map pair_of ps) k (pair_of d)).name n ≡ bytes_eq (get_or ps k d).name.now n
-named ps k d n h = ap (λ (q : NamedValue). bytes_eq q.name n) (get_or-map pair_of ps k d (pair_of d) h)
-
-pub pair_twice : (p : Pair) (ps : List Pair) (k : ℕ) (d : Pair) → k ≡ place_of p.name.now (map pair_of ps) → k < length ps → bytes_eq (get_or ps k d).name.now p.name.now ≡ true → with_pair (pair_of p) (map pair_of ps) ≡ None
-pair_twice p ps k d e h f =
-    let l : length (map pair_of ps) ≡ length ps = length-map ps pair_of in
-    let g : bytes_eq (get_or (map pair_of ps) k (pair_of d)).name p.name.now ≡ true = named ps k d p.name.now h ∙ f in
-    named_twice (pair_of p) (map pair_of ps) (pair_of d) (omega arith) (subst (λ (j : ℕ). bytes_eq (get_or (map pair_of ps) j (pair_of d)).name p.name.now ≡ true) e g)
-
-pub pair_put : (p : Pair) (ps : List Pair) (k : ℕ) (d : Pair) → k ≡ place_of p.name.now (map pair_of ps) → (k < length ps → bytes_eq (get_or ps k d).name.now p.name.now ≡ false)
-    → with_pair (pair_of p) (map pair_of ps) ≡ Some (map pair_of (insert ps k p))
-pair_put p ps k d e f =
-    let l : length (map pair_of ps) ≡ length ps = length-map ps pair_of in
-    let g : k < length (map pair_of ps) → bytes_eq (get_or (map pair_of ps) k (pair_of d)).name p.name.now ≡ false = λ h. let m : k < length ps = omega arith in named ps k d p.name.now m ∙ f m in
-    put_there (pair_of p) (map pair_of ps) (pair_of d) (subst (λ (j : ℕ). j < length (map pair_of ps) → bytes_eq (get_or (map pair_of ps) j (pair_of d)).name p.name.now ≡ false) e g)
-    ∙ ap Some
-    (ap (λ j. insert (map pair_of ps) j (pair_of p)) (sym e)
-    ∙ ap₂ (λ a b. a ++ (pair_of p ∷ b)) (take-map pair_of k ps) (drop-map pair_of k ps)
-    ∙ sym (map-append pair_of (take k ps) (p ∷ drop k ps)))
+pub put_there : (p : Pair) (qs : List Pair) (i : ℕ) (d : Pair) → IsPlace p.name.now qs i → (i < length qs → bytes_eq (get_or qs i d).name.now p.name.now ≡ false) → with_pair (pair_of p) (map pair_of qs) ≡ Some (map pair_of (insert qs i p))
+unfolding with_pair
+put_there p [] zero d h e = refl
+put_there p [] (suc i) d h e = let l = h.0 in absurd (omega (arith, l))
+put_there p (q ∷ qs) zero d h e = cond-false _ _ _ (h.2 (omega arith) q) ∙ cond-false _ _ _ (e (omega arith))
+put_there p (q ∷ qs) (suc i) d h e =
+    let l = h.0 in
+    cond-true _ _ _ (h.1 0 q (omega arith) (omega arith))
+    ∙ ap (option_map (λ rs. pair_of q ∷ rs)) (put_there p qs i d (omega (arith, l), (λ k d a b. h.1 (suc k) d (omega arith) (omega arith)), (λ m. h.2 (omega (arith, m)))) (λ m. e (omega (arith, m))))
 
 -- names above n
 unfoldable above : List ℕ → List NamedValue → Bool

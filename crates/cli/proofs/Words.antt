@@ -1,57 +1,20 @@
 -- The words of a command line are taken from the left: what one word is for, and what one more does to the whole.
-use Rattle.std.proofs.Common.{◌≡◌, ℕ, zero, suc, ◌+◌, ◌<◌, ◌≤◌, false, eqb, List, [], ◌∷◌, ◌++◌, map, length, get_or, drop, Some, None, Ok, Err, string_bytes, codes, Option, Result, String, sym, refl, ap, ◌∙◌, ⊎_elim, append_assoc, append-nil}
-use Rattle.std.proofs.lemmas.Slice.Eq.{bytes_eq-Decides}
-use Rattle.std.proofs.lemmas.List.{drop_more, drop_all, map_push, at_drop_more, at_drop_all}
-use Rattle.std.proofs.lemmas.Bool.{cases_Bool, ne_eqb, eq-eqb, cond-true, cond-false}
-use Rattle.std.specs.Str.{bytes_eq}
+use Rattle.std.proofs.Common.{◌≡◌, ℕ, ◌+◌, ◌<◌, ◌≤◌, List, [], ◌∷◌, ◌++◌, map, length, get_or, drop, Some, None, Ok, Err, string_bytes, Result, String, sym, refl, ap, ◌∙◌, append_assoc, append-nil}
+use Rattle.std.proofs.lemmas.List.{drop_more, drop_all, map_push}
 use Rattle.cli.specs.declared.options.Program.{Program}
 use Rattle.cli.specs.declared.options.Kind.{Kind}
-use Rattle.cli.specs.declared.options.Kind.TheVariants as kinds
-use Rattle.cli.specs.declared.options.Kind.TheVariants.{Operand}
 use Rattle.cli.specs.declared.scan.Expects.{Expects}
 use Rattle.cli.specs.declared.scan.Expects.TheVariants as expects
 use Rattle.cli.specs.declared.scan.Expects.TheVariants.{Word, ValueOf}
 use Rattle.cli.specs.declared.scan.Step.{Step}
-use Rattle.cli.specs.declared.scan.Given.{Given}
-use Rattle.cli.specs.Options.{option_of}
-use Rattle.cli.specs.Scan.{Item, Fault, unknown, no_value, item, item_before, at_end, go_on, step_of, word_step, option_step, scan_from, words_of, rank, texts}
-
-pub not_same : (xs ys : List ℕ) → (xs ≡ ys → ⊥) → bytes_eq xs ys ≡ false
-not_same xs ys h = ⊎_elim (λ t. absurd (h ((bytes_eq-Decides xs ys).0 t))) (λ f. f) (cases_Bool (bytes_eq xs ys))
-
-pub no_option : (w : List ℕ) → (w ≡ codes "--key" → ⊥) → (w ≡ codes "--data-key" → ⊥) → (w ≡ codes "--context" → ⊥) → (w ≡ codes "--frame-length" → ⊥) → (w ≡ codes "--id" → ⊥) → (w ≡ codes "--header" → ⊥) → (w ≡ codes "--force" → ⊥) → (w ≡ codes "--help" → ⊥) → (w ≡ codes "--version" → ⊥) → None ≡ option_of w
-no_option w a b c d e f g h i =
-    sym
-    (cond-false (bytes_eq w (codes "--key")) _ _ (not_same w (codes "--key") a)
-    ∙ cond-false (bytes_eq w (codes "--data-key")) _ _ (not_same w (codes "--data-key") b)
-    ∙ cond-false (bytes_eq w (codes "--context")) _ _ (not_same w (codes "--context") c)
-    ∙ cond-false (bytes_eq w (codes "--frame-length")) _ _ (not_same w (codes "--frame-length") d)
-    ∙ cond-false (bytes_eq w (codes "--id")) _ _ (not_same w (codes "--id") e)
-    ∙ cond-false (bytes_eq w (codes "--header")) _ _ (not_same w (codes "--header") f)
-    ∙ cond-false (bytes_eq w (codes "--force")) _ _ (not_same w (codes "--force") g)
-    ∙ cond-false (bytes_eq w (codes "--help")) _ _ (not_same w (codes "--help") h)
-    ∙ cond-false (bytes_eq w (codes "--version")) _ _ (not_same w (codes "--version") i))
-
--- a word that isn't "--" and begins with '-'
-pub option_word : (program : Program) (w : List ℕ) → (w ≡ codes "--" → ⊥) → get_or w 0 0 ≡ 45 → option_step program (option_of w) ≡ word_step program w
-option_word program w h e =
-    sym (cond-false (bytes_eq w (codes "--")) _ _ (not_same w (codes "--") h) ∙ cond-true (eqb (get_or w 0 0) 45) _ _ (eq-eqb (get_or w 0 0) 45 e))
-
-pub file_word : (program : Program) (w : List ℕ) → (w ≡ codes "--" → ⊥) → (get_or w 0 0 ≡ 45 → ⊥) → Some (record { given = Some Operand; then = Word }) ≡ word_step program w
-file_word program w h e =
-    sym (cond-false (bytes_eq w (codes "--")) _ _ (not_same w (codes "--") h) ∙ cond-false (eqb (get_or w 0 0) 45) _ _ (ne_eqb (get_or w 0 0) 45 e))
-
-pub taken_option : (program : Program) (w : List ℕ) (k : Kind) (s : Option Step) → Some k ≡ option_of w → s ≡ option_step program (Some k) → s ≡ option_step program (option_of w)
-taken_option program w k s n e = e ∙ ap (option_step program) n
+use Rattle.cli.specs.declared.line.Given.{Given}
+use Rattle.cli.specs.Line.{Item, item}
+use Rattle.cli.specs.Scan.{Fault, unknown, no_value, item_before, at_end, go_on, step_of, scan_from, words_of}
 
 -- the items so far, and what is left
 abbrev pub items_before : List Item → Result (List Item) Fault → Result (List Item) Fault
 items_before done (Ok xs) = Ok (done ++ xs)
 items_before done (Err e) = Err e
-
-pub none_before : (r : Result (List Item) Fault) → items_before [] r ≡ r
-none_before (Ok xs) = refl
-none_before (Err e) = refl
 
 step_on : {Z : Type 0} (program : Program) (e : Expects) (ws : List (String Z)) (i : ℕ) (w : String Z) → i < length ws → w ≡ get_or ws i w
     → scan_from program e (words_of (drop i ws)) ≡ go_on (string_bytes w) (step_of program e (string_bytes w)) (λ f. scan_from program f (words_of (drop (i + 1) ws)))
@@ -116,49 +79,3 @@ words_done program e ws i done h n = ap (items_before done) (words_end program e
     ended Word m = refl
     ended (ValueOf k) m = absurd (m k refl)
     ended expects.Operand m = refl
-
--- a kind by its place
-unrank : ℕ → Kind
-unrank zero = kinds.Key
-unrank (suc zero) = kinds.DataKey
-unrank (suc (suc zero)) = kinds.Context
-unrank (suc (suc (suc zero))) = kinds.FrameLength
-unrank (suc (suc (suc (suc zero)))) = kinds.Id
-unrank (suc (suc (suc (suc (suc zero))))) = kinds.Header
-unrank (suc (suc (suc (suc (suc (suc zero)))))) = kinds.Force
-unrank (suc (suc (suc (suc (suc (suc (suc zero))))))) = kinds.Help
-unrank (suc (suc (suc (suc (suc (suc (suc (suc zero)))))))) = kinds.Version
-unrank (suc (suc (suc (suc (suc (suc (suc (suc (suc n))))))))) = kinds.Operand
-
-unrank_rank : (k : Kind) → unrank (rank k) ≡ k
-unfolding unrank
-unrank_rank kinds.Key = refl
-unrank_rank kinds.DataKey = refl
-unrank_rank kinds.Context = refl
-unrank_rank kinds.FrameLength = refl
-unrank_rank kinds.Id = refl
-unrank_rank kinds.Header = refl
-unrank_rank kinds.Force = refl
-unrank_rank kinds.Help = refl
-unrank_rank kinds.Version = refl
-unrank_rank kinds.Operand = refl
-
-same_rank : (a b : Kind) → rank a ≡ rank b → a ≡ b
-same_rank a b e = sym (unrank_rank a) ∙ (ap unrank e ∙ unrank_rank b)
-
--- a turn over what was given, of the kind and of another
-pub text_more : (k : Kind) (gs : List Given) (i : ℕ) (d : Given) (done : List (List ℕ)) → i < length gs → (get_or gs i d).kind ≡ k
-    → (done ++ ((get_or gs i d).text.now ∷ [])) ++ texts k (map item (drop (i + 1) gs)) ≡ done ++ texts k (map item (drop i gs))
-unfolding texts
-text_more k gs i d done h e =
-    append_assoc done ((get_or gs i d).text.now ∷ []) (texts k (map item (drop (i + 1) gs)))
-    ∙ ap (λ ts. done ++ ts) (sym (at_drop_more (λ xs. texts k (map item xs)) gs i d h ∙ cond-true _ _ _ (eq-eqb (rank (get_or gs i d).kind) (rank k) (ap rank e))))
-
-pub text_passed : (k : Kind) (gs : List Given) (i : ℕ) (d : Given) (done : List (List ℕ)) → i < length gs → ((get_or gs i d).kind ≡ k → ⊥) → done ++ texts k (map item (drop (i + 1) gs)) ≡ done ++ texts k (map item (drop i gs))
-unfolding texts
-text_passed k gs i d done h n =
-    ap (λ ts. done ++ ts) (sym (at_drop_more (λ xs. texts k (map item xs)) gs i d h ∙ cond-false _ _ _ (ne_eqb (rank (get_or gs i d).kind) (rank k) (λ e. n (same_rank (get_or gs i d).kind k e)))))
-
-pub texts_end : (k : Kind) (gs : List Given) (i : ℕ) (done : List (List ℕ)) → length gs ≤ i → done ≡ done ++ texts k (map item (drop i gs))
-unfolding texts
-texts_end k gs i done h = sym (append-nil done) ∙ ap (λ ts. done ++ ts) (sym (at_drop_all (λ xs. texts k (map item xs)) gs i h))

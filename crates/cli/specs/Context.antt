@@ -1,5 +1,5 @@
 -- Pairs put in the order of their names' bytes, each name once. These are definitions: they assume nothing.
-use Rattle.std.specs.Prelude.{◌≡◌, ℕ, suc, Bool, true, cond, ◌&&◌, List, [], ◌∷◌, Some, None, Ok, Err, Option, Result}
+use Rattle.std.specs.Prelude.{◌≡◌, ℕ, Bool, true, cond, ◌&&◌, List, [], ◌∷◌, Some, None, Ok, Err, Option, Result}
 use Rattle.std.specs.Option.{option_map}
 use Rattle.octets.specs.Bytes.{bytes_lt, bytes_eq}
 use Rattle.cli.specs.declared.context.Pair as declared
@@ -12,11 +12,6 @@ pub record NamedValue : Type 0 where
 
 abbrev pub pair_of : declared.Pair → NamedValue
 pair_of p = record { name = p.name.now; value = p.value.now }
-
--- how many names come before a name, from the front on
-unfoldable pub place_of : List ℕ → List NamedValue → ℕ
-place_of n [] = 0
-place_of n (q ∷ qs) = cond (bytes_lt q.name n) (suc (place_of n qs)) 0
 
 -- a pair in its place: before the first name that is above its own; none where its own name is there
 unfoldable pub with_pair : NamedValue → List NamedValue → Option (List NamedValue)
@@ -32,5 +27,5 @@ rising (p ∷ (q ∷ qs)) = bytes_lt p.name q.name && rising (q ∷ qs)
 -- where the pairs were in order they still are, and a refused pair leaves them as they were
 abbrev pub Adds : NamedValue → List NamedValue → Result (Unit {0}) AddError → List NamedValue → Type 0
 Adds p old (Ok u) new = (with_pair p old ≡ Some new) × (rising old ≡ true → rising new ≡ true)
-Adds p old (Err Twice) new = (with_pair p old ≡ None) × (new ≡ old)
+Adds p old (Err (Twice name)) new = (with_pair p old ≡ None) × (name.now ≡ p.name) × (new ≡ old)
 Adds p old (Err Memory) new = new ≡ old

@@ -1,22 +1,32 @@
 -- The options of the two programs. These are definitions: they assume nothing.
-use Rattle.std.specs.Prelude.{ℕ, Bool, true, false, cond, List, Some, None, codes, Option}
+use Rattle.std.specs.Prelude.{ℕ, Bool, true, false, List, [], ◌∷◌, codes, Option}
+use Rattle.std.specs.List.{find}
 use Rattle.std.specs.Str.{bytes_eq}
 use Rattle.cli.specs.declared.options.Program.{Program}
 use Rattle.cli.specs.declared.options.Program.TheVariants.{Seal, Open}
 use Rattle.cli.specs.declared.options.Kind.{Kind}
 use Rattle.cli.specs.declared.options.Kind.TheVariants.{Key, DataKey, Context, FrameLength, Id, Header, Force, Help, Version, Operand}
 
+-- how a person writes a kind
+abbrev pub name_of : Kind → List ℕ
+name_of Key = codes "--key"
+name_of DataKey = codes "--data-key"
+name_of Context = codes "--context"
+name_of FrameLength = codes "--frame-length"
+name_of Id = codes "--id"
+name_of Header = codes "--header"
+name_of Force = codes "--force"
+name_of Help = codes "--help"
+name_of Version = codes "--version"
+name_of Operand = codes "a file"
+
+-- the kinds that are options
+abbrev pub options : List Kind
+options = Key ∷ DataKey ∷ Context ∷ FrameLength ∷ Id ∷ Header ∷ Force ∷ Help ∷ Version ∷ []
+
+-- the option of that name
 abbrev pub option_of : List ℕ → Option Kind
-option_of w =
-    cond (bytes_eq w (codes "--key")) (Some Key)
-    (cond (bytes_eq w (codes "--data-key")) (Some DataKey)
-    (cond (bytes_eq w (codes "--context")) (Some Context)
-    (cond (bytes_eq w (codes "--frame-length")) (Some FrameLength)
-    (cond (bytes_eq w (codes "--id")) (Some Id)
-    (cond (bytes_eq w (codes "--header")) (Some Header)
-    (cond (bytes_eq w (codes "--force")) (Some Force)
-    (cond (bytes_eq w (codes "--help")) (Some Help)
-    (cond (bytes_eq w (codes "--version")) (Some Version) None))))))))
+option_of w = find (λ k. bytes_eq w (name_of k)) options
 
 -- options that a program hasn't
 abbrev pub takes : Program → Kind → Bool

@@ -1,18 +1,17 @@
 -- The words of a command line, each with what it is for. These are definitions: they assume nothing.
-use Rattle.std.specs.Prelude.{◌≡◌, ℕ, cond, List, [], ◌∷◌, map, Some, None, Ok, Err, vec_items, string_bytes, codes, Option, Result, Vec, String, ◌==◌, slice_index}
-use Rattle.std.specs.Borrow.{Bor}
+use Rattle.std.specs.Prelude.{◌≡◌, ℕ, cond, List, [], ◌∷◌, map, Some, None, Ok, Err, string_bytes, codes, Option, Result, String, Vec, vec_items, ◌==◌, slice_index}
 use Rattle.std.specs.Str.{bytes_eq}
 use Rattle.cli.specs.declared.options.Program.{Program}
 use Rattle.cli.specs.declared.options.Kind.{Kind}
-use Rattle.cli.specs.declared.options.Kind.TheVariants as kinds
 use Rattle.cli.specs.declared.options.Kind.TheVariants.{Operand}
 use Rattle.cli.specs.declared.scan.Expects.{Expects}
 use Rattle.cli.specs.declared.scan.Expects.TheVariants as expects
 use Rattle.cli.specs.declared.scan.Expects.TheVariants.{Word, ValueOf}
 use Rattle.cli.specs.declared.scan.Step.{Step}
-use Rattle.cli.specs.declared.scan.Given.{Given}
 use Rattle.cli.specs.declared.scan.ScanError.{ScanError}
 use Rattle.cli.specs.declared.scan.ScanError.TheVariants.{Unknown, NoValue, Memory}
+use Rattle.cli.specs.declared.line.Given.{Given}
+use Rattle.cli.specs.Line.{Item, item}
 use Rattle.cli.specs.Options.{option_of, takes, takes_value}
 
 -- an option: its value is the next word, or it takes none
@@ -32,10 +31,6 @@ abbrev pub step_of : Program → Expects → List ℕ → Option Step
 step_of program Word w = word_step program w
 step_of program (ValueOf k) w = Some (record { given = Some k; then = Word })
 step_of program expects.Operand w = Some (record { given = Some Operand; then = expects.Operand })
-
-pub record Item : Type 0 where
-  pub kind : Kind
-  pub text : List ℕ
 
 pub data Fault : Type 0 where
   unknown : List ℕ → Fault
@@ -62,33 +57,9 @@ scan_from program e (w ∷ ws) = go_on w (step_of program e w) (λ f. scan_from 
 abbrev pub words_of : {Z : Type 0} → List (String Z) → List (List ℕ)
 words_of ws = map string_bytes ws
 
-abbrev pub item : Given → Item
-item g = record { kind = g.kind; text = g.text.now }
-
 -- the answer is as defined, unless memory ran out
 abbrev pub Scans : {Z : Type 0} → Result (Vec Given Z) ScanError → Result (List Item) Fault → Type 0
 Scans (Ok v) r = r ≡ Ok (map item (vec_items v))
 Scans (Err (Unknown w)) r = r ≡ Err (unknown w.now)
 Scans (Err (NoValue k)) r = r ≡ Err (no_value k)
 Scans (Err Memory) r = Unit {0}
-
--- a kind's place among the kinds, which tells it from the others
-abbrev pub rank : Kind → ℕ
-rank kinds.Key = 0
-rank kinds.DataKey = 1
-rank kinds.Context = 2
-rank kinds.FrameLength = 3
-rank kinds.Id = 4
-rank kinds.Header = 5
-rank kinds.Force = 6
-rank kinds.Help = 7
-rank kinds.Version = 8
-rank kinds.Operand = 9
-
--- the texts of one kind
-unfoldable pub texts : Kind → List Item → List (List ℕ)
-texts k [] = []
-texts k (i ∷ is) = cond (rank i.kind == rank k) (i.text ∷ texts k is) (texts k is)
-
-abbrev pub now_of : Bor (List ℕ) → List ℕ
-now_of r = r.now

@@ -1,8 +1,10 @@
 // The encryption context of a command line, in the order of the names' bytes.
-ghost use Rattle.std.specs.Prelude.{◌≡◌, ◌≤◌, map, length};
-ghost use Rattle.cli.specs.Context.{pair_of, place_of, Adds};
+ghost use Rattle.std.specs.Prelude.{◌≡◌, true, [], map};
+ghost use Rattle.cli.specs.Context.{pair_of, rising, Adds};
+ghost use Rattle.cli.specs.declared.context.AddError.TheVariants.{Memory};
 
-use octets::{equal, less};
+use std::alloc::{AllocFailed, Global};
+use std::marker::Model;
 
 #[derive(Clone, Copy)]
 pub struct Pair<'a> {
@@ -10,39 +12,75 @@ pub struct Pair<'a> {
     pub value: &'a str,
 }
 
-#[derive(Clone, Copy)]
-pub enum AddError {
-    // the name is there already
-    Twice,
+#[derive(Clone, Copy, PartialEq, Eq, Debug, Drop)]
+pub enum AddError<'a> {
+    // the name that is there already
+    Twice(&'a str),
     Memory,
 }
 
-// How many names come before a name, from the front on.
-fn place(pairs: &[Pair], name: &str) -> usize
-    ensures value { result ≡ place_of name.now (map pair_of pairs.now) }
-    ensures bound { result ≤ length pairs.now }
-{
-    for i in 0..pairs.len() {
-        if !less(pairs[i].name.as_bytes(), name.as_bytes()) {
-            return i;
-        }
+impl<'a, T: Drop> From<AllocFailed<T>> for AddError<'a> {
+    ghost from_gives = { λ _ e. e ≡ Memory };
+
+    fn from(_error: AllocFailed<T>) -> AddError<'a> {
+        AddError::Memory
     }
-    pairs.len()
 }
 
-// Puts a pair in its place among pairs in order; a name that is there already is refused.
-pub fn add_pair<'a>(pairs: &mut Vec<Pair<'a>>, pair: Pair<'a>) -> Result<(), AddError>
+// Puts a pair among pairs in any order, before the first whose name isn't below its own; it is refused where that one has its name.
+// The library's search from the front is right for any order, where one that halves would be for pairs in order alone.
+pub fn add_pair<'a>(pairs: &mut Vec<Pair<'a>>, pair: Pair<'a>) -> Result<(), AddError<'a>>
     ensures value { Adds (pair_of pair.entry) (map pair_of pairs.old.items) result (map pair_of pairs.new.items) }
 {
-    let at = place(pairs.as_slice(), pair.name);
-    if at < pairs.len() {
-        let name = pairs[at].name;
-        if equal(name.as_bytes(), pair.name.as_bytes()) {
-            return Err(AddError::Twice);
+    let place = pairs
+        .iter()
+        .position(|one| one.name >= pair.name)
+        .unwrap_or(pairs.len());
+    if place < pairs.len() && pairs[place].name == pair.name {
+        return Err(AddError::Twice(pair.name));
+    }
+    pairs.insert(place, pair)?;
+    Ok(())
+}
+
+// Pairs in order, each name once.
+#[derive(Drop)]
+pub struct Context<'a> {
+    pairs: Vec<Pair<'a>>,
+}
+
+impl<'a> Model for Context<'a> {
+    ghost use Rattle.std.specs.Prelude.{◌≡◌, true, List, map};
+    ghost use Rattle.cli.specs.Context.{NamedValue, pair_of, rising};
+
+    ghost Value = { List NamedValue };
+
+    ghost view = { λ context. map pair_of context.pairs.items };
+
+    ghost invariant = { λ context. rising (map pair_of context.pairs.items) ≡ true };
+}
+
+impl<'a> Context<'a> {
+    #[tactic(auto, unfolding(crate::specs::Context::rising))]
+    pub fn new(heap: Global) -> Context<'a>
+        ensures value { result ≡ [] }
+    {
+        Context {
+            pairs: Vec::new(heap),
         }
     }
-    if pairs.insert(at, pair).is_err() {
-        return Err(AddError::Memory);
+
+    pub fn pairs(&self) -> &[Pair<'a>]
+        ensures value { map pair_of result.now ≡ self.now }
+        ensures order { rising self.now ≡ true }
+    {
+        self.pairs.as_slice()
     }
-    Ok(())
+
+    // Puts a pair in its place; a name that is there already is refused.
+    pub fn add(&mut self, pair: Pair<'a>) -> Result<(), AddError<'a>>
+        ensures value { Adds (pair_of pair.entry) self.old result self.new }
+    {
+        add_pair(&mut self.pairs, pair)
+    }
 }

@@ -6,12 +6,8 @@ ghost use Rattle.cli.specs.Hex.{digit, unhex_32};
 fn nibble(b: u8) -> Option<u8>
     ensures { result ≡ digit b }
 {
-    match b {
-        b'0'..=b'9' => Some(b - b'0'),
-        b'a'..=b'f' => Some(b - b'a' + 10),
-        b'A'..=b'F' => Some(b - b'A' + 10),
-        _ => None,
-    }
+    let value = char::from(b).to_digit(16)?;
+    Some(value as u8)
 }
 
 // 32 bytes from 64 digits.
@@ -22,6 +18,7 @@ pub fn unhex32(digits: &[u8]) -> Option<[u8; 32]>
         return None;
     }
     let mut bytes = [0; 32];
+    // The digits may be a key's: the loop counts to a public number, and no iterator runs over them.
     for i in 0..32usize {
         let high = nibble(digits[2 * i])?;
         let low = nibble(digits[2 * i + 1])?;

@@ -8,11 +8,10 @@ use crate::hex::unhex32;
 pub fn parse_key(bytes: &[u8]) -> Option<[u8; 32]>
     ensures value { result ≡ key_of bytes.now }
 {
-    if bytes.len() == 32 {
-        let mut key = [0; 32];
-        key.copy_from_slice(bytes);
+    if let Ok(key) = <[u8; 32]>::try_from(bytes) {
         return Some(key);
     }
+    // Only the byte behind 64 digits is compared: `strip_suffix` would compare a digit of the key where there is none.
     if bytes.len() == 65 && bytes[64] == b'\n' {
         return unhex32(&bytes[0..64]);
     }

@@ -5,6 +5,7 @@
 pub mod context;
 pub mod hex;
 pub mod key;
+pub mod line;
 pub mod number;
 pub mod options;
 pub mod scan;

@@ -1,6 +1,6 @@
 // Sizes, as decimal digits.
 ghost use Rattle.std.specs.Prelude.{◌≡◌};
-ghost use Rattle.cli.specs.Number.{digits_on, number_within};
+ghost use Rattle.cli.specs.Number.{decimal_digit, digits_on, number_within};
 
 #[derive(Clone, Copy, PartialEq, Eq, Debug)]
 pub enum NumberError {
@@ -10,17 +10,21 @@ pub enum NumberError {
     OutOfRange,
 }
 
+fn decimal_digit(b: u8) -> Option<u32>
+    ensures { result ≡ decimal_digit b }
+{
+    char::from(b).to_digit(10)
+}
+
 // The number that digits write, if it isn't above `high`.
 fn decimal(digits: &[u8], high: u32) -> Result<u32, NumberError>
     ensures { result ≡ digits_on high 0 digits.now }
 {
     let mut n: u64 = 0;
     for b in digits {
-        if *b < b'0' || *b > b'9' {
-            return Err(NumberError::NoDigits);
-        }
-        n = n * 10 + (*b - b'0') as u64;
-        if n > high as u64 {
+        let digit = decimal_digit(*b).ok_or(NumberError::NoDigits)?;
+        n = n * 10 + u64::from(digit);
+        if n > u64::from(high) {
             return Err(NumberError::OutOfRange);
         }
     }

@@ -1,23 +1,26 @@
 // The words of a command line, each with what it is for.
-ghost use Rattle.std.specs.Prelude.{◌≡◌, map, IfOk};
+ghost use Rattle.std.specs.Prelude.{◌≡◌};
 ghost use Rattle.cli.specs.Options.{option_of};
-ghost use Rattle.cli.specs.Scan.{step_of, option_step, scan_from, words_of, Scans, texts, item, now_of};
+ghost use Rattle.cli.specs.Scan.{step_of, option_step, scan_from, words_of, Scans};
+ghost use Rattle.cli.specs.declared.scan.ScanError.TheVariants.{Memory};
 
+use crate::line::Given;
 use crate::options::{Kind, Program};
-use std::alloc::{AllocError, Global};
+use std::alloc::{AllocFailed, Global};
 
-// A word with what it is for: an option's value, an option that takes none, or a file.
-#[derive(Clone, Copy)]
-pub struct Given<'a> {
-    pub kind: Kind,
-    pub text: &'a str,
-}
-
-#[derive(Clone, Copy, Drop)]
+#[derive(Clone, Copy, PartialEq, Eq, Debug, Drop)]
 pub enum ScanError<'a> {
     Unknown(&'a str),
     NoValue(Kind),
     Memory,
+}
+
+impl<'a, T: Drop> From<AllocFailed<T>> for ScanError<'a> {
+    ghost from_gives = { λ _ e. e ≡ Memory };
+
+    fn from(_error: AllocFailed<T>) -> ScanError<'a> {
+        ScanError::Memory
+    }
 }
 
 // What the next word is.
@@ -101,31 +104,14 @@ pub fn scan<'a>(
     let mut expects = Expects::Word;
     for word in words {
         let text = word.as_str();
-        let Some(step) = next_step(program, expects, text) else {
-            return Err(ScanError::Unknown(text));
-        };
+        let step = next_step(program, expects, text).ok_or(ScanError::Unknown(text))?;
         if let Some(kind) = step.given {
-            if all.push(Given { kind, text }).is_err() {
-                return Err(ScanError::Memory);
-            }
+            all.push(Given { kind, text })?;
         }
         expects = step.then;
     }
     if let Expects::ValueOf(kind) = expects {
         return Err(ScanError::NoValue(kind));
-    }
-    Ok(all)
-}
-
-// What was given of one kind, in the order of the words.
-pub fn values<'a>(heap: Global, given: &[Given<'a>], kind: Kind) -> Result<Vec<&'a str>, AllocError>
-    ensures value { IfOk result (λ v. map now_of v.items ≡ texts kind (map item given.now)) }
-{
-    let mut all = Vec::new(heap);
-    for one in given {
-        if one.kind == kind {
-            all.push(one.text)?;
-        }
     }
     Ok(all)
 }

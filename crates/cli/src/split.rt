@@ -19,24 +19,12 @@ pub fn split_pair(text: &str) -> Option<(&str, &str)>
     text.split_once('=')
 }
 
-fn at_first_colon(text: &str) -> Option<(&str, &str)>
-    ensures value { option_map parts result ≡ split_first 58 text.now }
-{
-    text.split_once(':')
-}
-
-fn at_last_colon(text: &str) -> Option<(&str, &str)>
-    ensures value { option_map parts result ≡ split_last 58 text.now }
-{
-    text.rsplit_once(':')
-}
-
 // PROVIDER_ID:PROVIDER_INFO:FILE, at the first and the last colon, since the info may have some.
 pub fn split_data_key(text: &str) -> Option<DataKeyWord<'_>>
     ensures value { option_map data_key_parts result ≡ split_data_key text.now }
 {
-    let (provider_id, rest) = at_first_colon(text)?;
-    let (provider_info, file) = at_last_colon(rest)?;
+    let (provider_id, rest) = text.split_once(':')?;
+    let (provider_info, file) = rest.rsplit_once(':')?;
     Some(DataKeyWord {
         provider_id,
         provider_info,

@@ -1,6 +1,6 @@
 -- The command to open, from the words of a command line. These are definitions: they assume nothing.
 use Rattle.std.specs.Prelude.{◌≡◌, List, [], ◌∷◌}
-use Rattle.cli.specs.Scan.{Item, texts}
+use Rattle.cli.specs.Line.{Item, texts}
 use Rattle.cli.specs.declared.options.Kind.TheVariants.{Key, Force, Operand}
 use Rattle.commands.specs.declared.open.OpenCommand.{OpenCommand}
 use Rattle.commands.specs.Given.{some_of}

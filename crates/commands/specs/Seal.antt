@@ -4,7 +4,7 @@ use Rattle.std.specs.Option.{option_map}
 use Rattle.std.specs.Result.{result_ok}
 use Rattle.cli.specs.Hex.{unhex_32}
 use Rattle.cli.specs.Number.{number_within}
-use Rattle.cli.specs.Scan.{Item, texts}
+use Rattle.cli.specs.Line.{Item, texts}
 use Rattle.cli.specs.declared.options.Kind.TheVariants.{Key, FrameLength, Id, Force, Operand}
 use Rattle.commands.specs.declared.seal.SealCommand.{SealCommand}
 use Rattle.commands.specs.Given.{some_of}

@@ -1,13 +1,12 @@
 // The commands to open a file, and to show the header of one.
-ghost use Rattle.std.specs.Prelude.{◌≡◌, [], ◌∷◌, map, IfOk};
-ghost use Rattle.cli.specs.Scan.{texts, item};
+ghost use Rattle.std.specs.Prelude.{◌≡◌, [], ◌∷◌, IfOk};
+ghost use Rattle.cli.specs.Line.{texts};
 ghost use Rattle.commands.specs.Open.{OpenGiven};
 
 use crate::given::{is_given, key_of, operands, sole};
 use crate::problem::Problem;
+use cli::line::CommandLine;
 use cli::options::Kind;
-use cli::scan::Given;
-use std::alloc::Global;
 
 #[derive(Clone, Copy)]
 pub struct OpenCommand<'a> {
@@ -18,12 +17,12 @@ pub struct OpenCommand<'a> {
 }
 
 // What is asked but for the pairs that the context has to hold.
-pub fn open_command<'a>(heap: Global, given: &[Given<'a>]) -> Result<OpenCommand<'a>, Problem<'a>>
-    ensures value { IfOk result (λ c. OpenGiven (map item given.now) c) }
+pub fn open_command<'a>(line: &CommandLine<'_, 'a>) -> Result<OpenCommand<'a>, Problem<'a>>
+    ensures value { IfOk result (λ c. OpenGiven line.now c) }
 {
-    let key = key_of(heap, given)?;
-    let force = is_given(heap, given, Kind::Force)?;
-    let (input, output) = operands(heap, given)?;
+    let key = key_of(line)?;
+    let force = is_given(line, Kind::Force)?;
+    let (input, output) = operands(line)?;
     Ok(OpenCommand {
         key,
         force,
@@ -33,14 +32,11 @@ pub fn open_command<'a>(heap: Global, given: &[Given<'a>]) -> Result<OpenCommand
 }
 
 // INPUT, whose header is to be shown, for which nothing else is needed.
-pub fn header_command<'a>(heap: Global, given: &[Given<'a>]) -> Result<&'a str, Problem<'a>>
-    ensures value { IfOk result (λ f. texts Kind.Operand (map item given.now) ≡ f.now ∷ []) }
+pub fn header_command<'a>(line: &CommandLine<'_, 'a>) -> Result<&'a str, Problem<'a>>
+    ensures value { IfOk result (λ f. texts Kind.Operand line.now ≡ f.now ∷ []) }
 {
-    if given.len() != 2 {
+    if line.len() != 2 {
         return Err(Problem::HeaderAlone);
     }
-    match sole(heap, given, Kind::Operand)? {
-        Some(input) => Ok(input),
-        None => Err(Problem::HeaderAlone),
-    }
+    sole(line, Kind::Operand)?.ok_or(Problem::HeaderAlone)
 }

@@ -1,6 +1,9 @@
-// What can go wrong, as one line for a person.
+// What can go wrong, as one line for a person. `Display` and `From` are by hand: no derive of std's makes either.
+use crate::limits::{MAX_FRAME_LENGTH, MAX_HEADER, MAX_TEXT};
+use cli::context::AddError;
 use cli::options::Kind;
 use cli::scan::ScanError;
+use std::alloc::{AllocError, AllocFailed};
 use std::{fmt, io};
 
 #[derive(Clone, Copy)]
@@ -28,8 +31,13 @@ pub enum Problem<'a> {
     Exists(&'a str),
     NoFile(&'a str),
     File(Action, &'a str, io::Error),
-    // a message that isn't opened: the refusal's number, its frame or 0, and its meaning
-    Refused(u8, u32, &'a str),
+    // a message that isn't opened: which refusal, by its number, at which frame if at one, and what it means; the library's own type isn't
+    // known to this crate
+    Refused {
+        number: u8,
+        frame: Option<u32>,
+        why: &'a str,
+    },
     NoSuchPair(&'a str, &'a str),
     LongHeader(&'a str),
     LongFrames(&'a str, u32),
@@ -39,6 +47,27 @@ pub enum Problem<'a> {
     Memory,
 }
 
+impl<'a> From<AddError<'a>> for Problem<'a> {
+    fn from(error: AddError<'a>) -> Problem<'a> {
+        match error {
+            AddError::Twice(name) => Problem::NameTwice(name),
+            AddError::Memory => Problem::Memory,
+        }
+    }
+}
+
+impl<'a> From<AllocError> for Problem<'a> {
+    fn from(_error: AllocError) -> Problem<'a> {
+        Problem::Memory
+    }
+}
+
+impl<'a, T: Drop> From<AllocFailed<T>> for Problem<'a> {
+    fn from(_error: AllocFailed<T>) -> Problem<'a> {
+        Problem::Memory
+    }
+}
+
 impl<'a> From<ScanError<'a>> for Problem<'a> {
     fn from(error: ScanError<'a>) -> Problem<'a> {
         match error {
@@ -46,22 +75,6 @@ impl<'a> From<ScanError<'a>> for Problem<'a> {
             ScanError::NoValue(kind) => Problem::NoValue(kind),
             ScanError::Memory => Problem::Memory,
         }
-    }
-}
-
-// How a person writes it.
-fn spelled(kind: Kind) -> &'static str {
-    match kind {
-        Kind::Key => "--key",
-        Kind::DataKey => "--data-key",
-        Kind::Context => "--context",
-        Kind::FrameLength => "--frame-length",
-        Kind::Id => "--id",
-        Kind::Header => "--header",
-        Kind::Force => "--force",
-        Kind::Help => "--help",
-        Kind::Version => "--version",
-        Kind::Operand => "a file",
     }
 }
 
@@ -81,18 +94,9 @@ impl fmt::Display for Problem<'_> {
                 f,
                 "unknown option {word:?}; --help lists the options"
             ),
-            Problem::NoValue(kind) => {
-                let option = spelled(kind);
-                write!(f, "{option} needs a value")
-            }
-            Problem::Missing(kind) => {
-                let option = spelled(kind);
-                write!(f, "{option} is missing")
-            }
-            Problem::Repeated(kind) => {
-                let option = spelled(kind);
-                write!(f, "{option} is given more than once")
-            }
+            Problem::NoValue(kind) => write!(f, "{kind} needs a value"),
+            Problem::Missing(kind) => write!(f, "{kind} is missing"),
+            Problem::Repeated(kind) => write!(f, "{kind} is given more than once"),
             Problem::Operands => f.write_str("one INPUT and one OUTPUT are needed"),
             Problem::HeaderAlone => f.write_str("--header takes one INPUT and nothing else"),
             Problem::NoPair(word) => write!(f, "--context {word:?} is not NAME=VALUE"),
@@ -101,41 +105,48 @@ impl fmt::Display for Problem<'_> {
                 f,
                 "--data-key {word:?} is not PROVIDER_ID:PROVIDER_INFO:FILE"
             ),
-            Problem::FrameLength => f.write_str("--frame-length is not a number from 1 to 16384"),
+            Problem::FrameLength => write!(
+                f,
+                "--frame-length is not a number from 1 to {MAX_FRAME_LENGTH}"
+            ),
             Problem::Id => f.write_str("--id is not 64 hexadecimal digits"),
             Problem::NoKey(path) => write!(
                 f,
                 "{path:?} is not a key: 32 bytes, or 64 hexadecimal digits"
             ),
-            Problem::HeaderTooLong => f.write_str(
-                "context and encrypted data keys make a header of more than 16384 bytes",
+            Problem::HeaderTooLong => write!(
+                f,
+                "context and encrypted data keys make a header of more than {MAX_HEADER} bytes"
             ),
-            Problem::TextTooLong(path) => write!(f, "{path:?} has more than 67108864 bytes"),
+            Problem::TextTooLong(path) => write!(f, "{path:?} has more than {MAX_TEXT} bytes"),
             Problem::Exists(path) => write!(f, "{path:?} exists; --force replaces it"),
             Problem::NoFile(path) => write!(f, "{path:?} is not a regular file"),
             Problem::File(action, path, error) => write!(f, "cannot {action} {path:?}: {error}"),
-            Problem::Refused(number, frame, why) => {
-                if frame == 0 {
-                    write!(f, "refused: {number}: {why}")
-                } else {
-                    write!(f, "refused: {number}, frame {frame}: {why}")
-                }
-            }
+            Problem::Refused {
+                number,
+                frame: None,
+                why,
+            } => write!(f, "refused: {number}: {why}"),
+            Problem::Refused {
+                number,
+                frame: Some(frame),
+                why,
+            } => write!(f, "refused: {number}, frame {frame}: {why}"),
             Problem::NoSuchPair(name, value) => write!(
                 f,
                 "the context does not hold the value {value:?} under the name {name:?}"
             ),
             Problem::LongHeader(path) => write!(
                 f,
-                "{path:?} has a header of more than 16384 bytes"
+                "{path:?} has a header of more than {MAX_HEADER} bytes"
             ),
             Problem::LongFrames(path, n) => write!(
                 f,
-                "{path:?} has frames of {n} bytes; the most is 16384"
+                "{path:?} has frames of {n} bytes; the most is {MAX_FRAME_LENGTH}"
             ),
             Problem::LongMessage(path) => write!(
                 f,
-                "the text in {path:?} has more than 67108864 bytes"
+                "the text in {path:?} has more than {MAX_TEXT} bytes"
             ),
             Problem::Changed(path) => write!(f, "{path:?} changed while it was read"),
             Problem::NoText => f.write_str("a word of the command line is not UTF-8"),

@@ -1,16 +1,15 @@
 // The command to seal a file.
-ghost use Rattle.std.specs.Prelude.{◌≡◌, map, IfOk, Some};
-ghost use Rattle.cli.specs.Scan.{texts, item};
+ghost use Rattle.std.specs.Prelude.{◌≡◌, IfOk, IfErr, Some, None};
+ghost use Rattle.cli.specs.Line.{texts};
 ghost use Rattle.commands.specs.Seal.{frame_length_of, id_of, SealGiven};
 
 use crate::given::{is_given, key_of, operands, sole};
 use crate::limits::{DEFAULT_FRAME_LENGTH, MAX_FRAME_LENGTH};
 use crate::problem::Problem;
 use cli::hex::unhex32;
+use cli::line::CommandLine;
 use cli::number::parse_number;
 use cli::options::Kind;
-use cli::scan::Given;
-use std::alloc::Global;
 
 #[derive(Clone, Copy)]
 pub struct SealCommand<'a> {
@@ -23,39 +22,36 @@ pub struct SealCommand<'a> {
     pub output: &'a str,
 }
 
-fn frame_length_of<'a>(heap: Global, given: &[Given<'a>]) -> Result<u32, Problem<'a>>
-    ensures { IfOk result (λ n. Some n ≡ frame_length_of (texts Kind.FrameLength (map item given.now))) }
+fn frame_length_of<'a>(line: &CommandLine<'_, 'a>) -> Result<u32, Problem<'a>>
+    ensures value { IfOk result (λ n. Some n ≡ frame_length_of (texts Kind.FrameLength line.now)) }
+    ensures refused { IfErr result (λ _. frame_length_of (texts Kind.FrameLength line.now) ≡ None) }
 {
-    let Some(text) = sole(heap, given, Kind::FrameLength)? else {
+    let Some(text) = sole(line, Kind::FrameLength)? else {
         return Ok(DEFAULT_FRAME_LENGTH);
     };
-    match parse_number(text.as_bytes(), 1, MAX_FRAME_LENGTH) {
-        Ok(n) => Ok(n),
-        Err(_) => Err(Problem::FrameLength),
-    }
+    parse_number(text.as_bytes(), 1, MAX_FRAME_LENGTH).map_err(|_| Problem::FrameLength)
 }
 
-fn id_of<'a>(heap: Global, given: &[Given<'a>]) -> Result<Option<[u8; 32]>, Problem<'a>>
-    ensures { IfOk result (λ o. Some o ≡ id_of (texts Kind.Id (map item given.now))) }
+fn id_of<'a>(line: &CommandLine<'_, 'a>) -> Result<Option<[u8; 32]>, Problem<'a>>
+    ensures value { IfOk result (λ o. Some o ≡ id_of (texts Kind.Id line.now)) }
+    ensures refused { IfErr result (λ _. id_of (texts Kind.Id line.now) ≡ None) }
 {
-    let Some(text) = sole(heap, given, Kind::Id)? else {
+    let Some(text) = sole(line, Kind::Id)? else {
         return Ok(None);
     };
-    match unhex32(text.as_bytes()) {
-        Some(id) => Ok(Some(id)),
-        None => Err(Problem::Id),
-    }
+    unhex32(text.as_bytes()).map(Some).ok_or(Problem::Id)
 }
 
-// What is asked but for the context and the encrypted data keys.
-pub fn seal_command<'a>(heap: Global, given: &[Given<'a>]) -> Result<SealCommand<'a>, Problem<'a>>
-    ensures value { IfOk result (λ s. SealGiven (map item given.now) s) }
+// What is asked but for the context and the encrypted data keys. It isn't made of `open_command`: the words are looked at in this order,
+// which decides what is complained of first.
+pub fn seal_command<'a>(line: &CommandLine<'_, 'a>) -> Result<SealCommand<'a>, Problem<'a>>
+    ensures value { IfOk result (λ s. SealGiven line.now s) }
 {
-    let key = key_of(heap, given)?;
-    let frame_length = frame_length_of(heap, given)?;
-    let id = id_of(heap, given)?;
-    let force = is_given(heap, given, Kind::Force)?;
-    let (input, output) = operands(heap, given)?;
+    let key = key_of(line)?;
+    let frame_length = frame_length_of(line)?;
+    let id = id_of(line)?;
+    let force = is_given(line, Kind::Force)?;
+    let (input, output) = operands(line)?;
     Ok(SealCommand {
         key,
         frame_length,

@@ -4,3 +4,4 @@
 
 pub mod new_file;
 pub mod read;
+pub mod window;

@@ -1,5 +1,5 @@
 // A new file, beside its place under a name of its own until it is whole. Only what was made here is ever removed.
-use crate::read::random_32;
+use crate::read::random;
 use std::fs::File;
 use std::io::Write;
 use std::path::Path;
@@ -14,45 +14,46 @@ pub struct NewFile {
 impl NewFile {
     // A file that wasn't there, in the folder of its place.
     pub fn create(rt: &HostRuntime, place: &str) -> io::Result<NewFile> {
-        let random = random_32(rt)?;
-        let mark = u64::from_be_bytes([
-            random[0], random[1], random[2], random[3], random[4], random[5], random[6], random[7],
-        ]);
+        let mark = u64::from_be_bytes(random(rt)?);
         let path = format!(in rt.alloc(); "{place}.{mark:016x}.tmp")?;
         let file = File::create_new(rt, path.as_str())?;
         Ok(NewFile { file, path })
     }
 
-    pub fn write(&mut self, bytes: &[u8]) -> io::Result<()> {
-        self.file.write_all(bytes)
-    }
-
     // Puts it in its place, which nothing else may have unless it is to be replaced. Where that fails, nothing is left of it.
     pub fn finish(self, rt: &HostRuntime, place: &str, replace: bool) -> io::Result<()> {
-        let NewFile { file, path } = self;
-        let result = settle(rt, &file, path.as_str(), place, replace);
-        if result.is_err() {
-            let _ = fs::remove_file(rt, path.as_str());
+        let settled = self.settle(rt, place, replace);
+        if settled.is_err() {
+            self.discard(rt);
         }
-        result
+        settled
     }
 
     pub fn discard(self, rt: &HostRuntime) {
-        let NewFile { file: _file, path } = self;
-        let _ = fs::remove_file(rt, path.as_str());
+        let _ = fs::remove_file(rt, self.path.as_str());
+    }
+
+    fn settle(&self, rt: &HostRuntime, place: &str, replace: bool) -> io::Result<()> {
+        self.file.sync_all()?;
+        if replace {
+            fs::rename(rt, self.path.as_str(), place)?;
+        } else {
+            take_place(rt, self.path.as_str(), place)?;
+        }
+        // The file is whole and in its place; that the folder is synced too is not always to be had.
+        let _ = sync_folder(rt, place);
+        Ok(())
     }
 }
 
-fn settle(rt: &HostRuntime, file: &File, path: &str, place: &str, replace: bool) -> io::Result<()> {
-    file.sync_all()?;
-    if replace {
-        fs::rename(rt, path, place)?;
-    } else {
-        take_place(rt, path, place)?;
+impl Write for NewFile {
+    fn write(&mut self, bytes: &[u8]) -> io::Result<usize> {
+        self.file.write(bytes)
     }
-    // The file is whole and in its place; that the folder is synced too is not always to be had.
-    let _ = sync_folder(rt, place);
-    Ok(())
+
+    fn flush(&mut self) -> io::Result<()> {
+        self.file.flush()
+    }
 }
 
 // An empty file that wasn't there takes the place first, so that no other is replaced.
@@ -66,12 +67,12 @@ fn take_place(rt: &HostRuntime, path: &str, place: &str) -> io::Result<()> {
 }
 
 fn sync_folder(rt: &HostRuntime, place: &str) -> io::Result<()> {
-    let folder = match Path::new(place).parent() {
-        Some(folder) => folder.as_str(),
-        None => "",
-    };
-    let name = if folder.is_empty() { "." } else { folder };
-    File::open(rt, name)?.sync_all()
+    let folder = Path::new(place)
+        .parent()
+        .map(|folder| folder.as_str())
+        .filter(|name| !name.is_empty())
+        .unwrap_or(".");
+    File::open(rt, folder)?.sync_all()
 }
 
 #[cfg(test)]
@@ -81,7 +82,7 @@ mod tests {
 
     fn made(rt: &HostRuntime, place: &str, text: &str, replace: bool) -> io::Result<()> {
         let mut file = NewFile::create(rt, place)?;
-        file.write(text.as_bytes())?;
+        file.write_all(text.as_bytes())?;
         file.finish(rt, place, replace)
     }
 

@@ -1,53 +1,40 @@
 // Bytes from files.
-ghost use Rattle.std.specs.Prelude.{◌≡◌, ◌<◌, ◌≤◌, length, IfSome, IfOk, vec_len};
+ghost use Rattle.std.specs.Prelude.{◌≡◌, ◌<◌, ◌≤◌, length, take, IfSome, IfOk, OnErr, vec_len};
+ghost use Rattle.std.specs.Io.KnownBytes.{Consumes, IsAtEnd, Keeps};
 
 use std::fs::File;
 use std::io::Read;
 use std::{fs, io};
 
-// One read, made again where a signal interrupts it.
+// One read, made again where a signal interrupts it; so many times at most, since nothing says that signals end.
 fn read_some<R: Read>(from: &mut R, buf: &mut [u8]) -> io::Result<usize>
-    ensures { IfOk result (λ n. n ≤ length buf.new) }
+    ensures bound { IfOk result (λ n. n ≤ length buf.new) }
+    ensures bytes { IfOk result (λ n. Consumes (R.remaining from.old) (R.remaining from.new) (take n buf.new)) }
+    ensures end { IfOk result (λ n. n ≡ 0 → 0 < length buf.old → IsAtEnd (R.remaining from.new)) }
 {
     for _ in 0..u64::MAX {
         match from.read(buf) {
-            Ok(n) => return Ok(n),
-            Err(e) => {
-                if e.kind() != io::ErrorKind::Interrupted {
-                    return Err(e);
-                }
-            }
+            Err(error) if error.kind() == io::ErrorKind::Interrupted => {}
+            answer => return answer,
         }
     }
     Err(io::Error::from(io::ErrorKind::Interrupted))
 }
 
-// One read into buf from a place on, and where its bytes end.
-fn read_from<R: Read>(from: &mut R, buf: &mut [u8], at: usize) -> io::Result<usize>
-    requires { at ≤ length buf.old }
-    ensures { IfOk result (λ next. (at ≤ next) × (next ≤ length buf.old)) }
-{
-    match read_some(from, &mut buf[at..]) {
-        Ok(n) => Ok(at + n),
-        Err(e) => Err(e),
-    }
-}
-
 // Reads until buf is full or nothing more comes, and answers how many bytes came.
 pub fn read_full<R: Read>(from: &mut R, buf: &mut [u8]) -> io::Result<usize>
     ensures bound { IfOk result (λ n. n ≤ length buf.new) }
+    ensures bytes { IfOk result (λ n. Consumes (R.remaining from.old) (R.remaining from.new) (take n buf.new)) }
+    ensures end { IfOk result (λ n. n < length buf.new → IsAtEnd (R.remaining from.new)) }
 {
     let mut at = 0;
+    // By a place in buf: of a rest that is walked along nothing is known once it is given back.
     while at < buf.len() {
-        match read_from(from, buf, at) {
-            Ok(next) => {
-                if next == at {
-                    return Ok(at);
-                }
-                at = next;
-            }
-            Err(e) => return Err(e),
+        let n = read_some(from, &mut buf[at..])?;
+        if n == 0 {
+            break;
         }
+        at += n;
     }
     Ok(at)
 }
@@ -56,10 +43,8 @@ pub fn read_full<R: Read>(from: &mut R, buf: &mut [u8]) -> io::Result<usize>
 pub fn read_start(rt: &HostRuntime, path: &str, buf: &mut [u8]) -> io::Result<usize>
     ensures bound { IfOk result (λ n. n ≤ length buf.new) }
 {
-    match File::open(rt, path) {
-        Ok(mut file) => read_full(&mut file, buf),
-        Err(e) => Err(e),
-    }
+    let mut file = File::open(rt, path)?;
+    read_full(&mut file, buf)
 }
 
 // A file's bytes; None where there are more than limit.
@@ -79,16 +64,12 @@ pub fn read_whole(rt: &HostRuntime, path: &str, limit: u32) -> io::Result<Option
 // How many bytes a file has; None where it isn't a regular file.
 pub fn file_len(rt: &HostRuntime, path: &str) -> io::Result<Option<u64>> {
     let found = fs::metadata(rt, path)?;
-    if found.is_file() {
-        Ok(Some(found.len()))
-    } else {
-        Ok(None)
-    }
+    Ok(found.is_file().then_some(found.len()))
 }
 
-// 32 bytes of the system's source of randomness.
-pub fn random_32(rt: &HostRuntime) -> io::Result<[u8; 32]> {
-    let mut bytes = [0; 32];
+// Bytes of the system's source of randomness.
+pub fn random<const N: usize>(rt: &HostRuntime) -> io::Result<[u8; N]> {
+    let mut bytes = [0; N];
     let mut source = File::open(rt, "/dev/urandom")?;
     source.read_exact(&mut bytes)?;
     Ok(bytes)

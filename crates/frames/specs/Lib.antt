@@ -1,3 +1,4 @@
 pub mod Cipher
 pub mod Frame
+pub mod Kind
 pub mod Next

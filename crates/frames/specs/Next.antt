@@ -4,6 +4,7 @@ use Rattle.std.specs.Borrow.{Bor}
 use Rattle.octets.specs.Bytes.{bytes_eq, to_bytes}
 use Rattle.octets.specs.Cut.{cut, and_then, guard}
 use Rattle.format.specs.Reading.{ReadFrame}
+use Rattle.frames.specs.Kind.{is_final}
 use Rattle.frames.specs.declared.frame.Frame.{Frame}
 
 abbrev pub the_frame : Bool → List ℕ → List ℕ → List ℕ → ReadFrame
@@ -11,7 +12,7 @@ the_frame last ciphertext tag rest = record { last = last; sealed = record { cip
 
 -- what a frame in code stands for
 abbrev pub frame_of : Frame → ReadFrame
-frame_of f = the_frame f.last f.ciphertext.now f.tag f.rest.now
+frame_of f = the_frame (is_final f.kind) f.ciphertext.now f.tag f.rest.now
 
 abbrev pub next_frame : Option Frame → List ReadFrame
 next_frame None = []

@@ -1,10 +1,16 @@
 // What a frame's text is sealed with: a nonce and additional data.
-ghost use Rattle.std.specs.Prelude.{◌≡◌, ◌+◌, true, false, length};
+ghost use Rattle.std.specs.Prelude.{◌≡◌, take};
+ghost use Rattle.octets.specs.Bits.{pick};
 ghost use Rattle.octets.specs.Bytes.{to_bytes};
-ghost use Rattle.format.specs.Piece.{frame_aad};
-ghost use Rattle.frames.specs.Frame.{aad_with};
+ghost use Rattle.octets.specs.Writing.{Writes};
+ghost use Rattle.format.specs.Piece.{regular_label, final_label, frame_aad};
+ghost use Rattle.frames.specs.Kind.{is_final, aad_length};
 
-use octets::{put, put_u32, put_u64};
+use crate::frame::FrameKind;
+use octets::Writer;
+
+// the longest additional data, a final frame's
+const MAX_AAD: usize = 78;
 
 // A frame's nonce: its number in twelve bytes.
 pub fn frame_nonce(number: u32) -> [u8; 12]
@@ -14,36 +20,42 @@ pub fn frame_nonce(number: u32) -> [u8; 12]
     [0, 0, 0, 0, 0, 0, 0, 0, a, b, c, d]
 }
 
-// Writes additional data under a label over all of the lent bytes.
-fn put_aad(out: &mut [u8], id: &[u8; 32], label: &[u8], number: u32, len: usize) -> Option<usize>
-    requires { length out.old ≡ 44 + length label.now }
-    ensures { out.new ≡ aad_with id.now label.now number len }
-{
-    let at = put(out, 0, id)?;
-    let at = put(out, at, label)?;
-    let at = put_u32(out, at, number)?;
-    put_u64(out, at, len as u64)
+impl FrameKind {
+    fn label(self) -> &'static [u8]
+        ensures { result.now ≡ pick (is_final self) final_label regular_label }
+    {
+        match self {
+            FrameKind::Regular => b"AWSKMSEncryptionClient Frame",
+            FrameKind::Final => b"AWSKMSEncryptionClient Final Frame",
+        }
+    }
+
+    // How long the additional data is.
+    pub fn aad_len(self) -> usize
+        ensures value { result ≡ aad_length self }
+    {
+        match self {
+            FrameKind::Regular => 72,
+            FrameKind::Final => MAX_AAD,
+        }
+    }
 }
 
-// The additional data of a frame with so many bytes of text: of a regular one, and of a final one.
-pub fn regular_aad(id: &[u8; 32], number: u32, len: usize) -> [u8; 72]
-    ensures value { result ≡ frame_aad id.now false number len }
+// The additional data of a frame with so many bytes of text.
+fn write_aad(kind: FrameKind, id: &[u8; 32], number: u32, len: usize, to: &mut Writer) -> Option<()>
+    ensures { Writes to.old (frame_aad id.now (is_final kind) number len) result to.new }
 {
-    let mut aad = [0; 72];
-    put_aad(&mut aad, id, b"AWSKMSEncryptionClient Frame", number, len);
-    aad
+    to.put(id)?;
+    to.put(kind.label())?;
+    to.put_number(number)?;
+    to.put_number(len as u64)
 }
 
-pub fn final_aad(id: &[u8; 32], number: u32, len: usize) -> [u8; 78]
-    ensures value { result ≡ frame_aad id.now true number len }
+// The same in the first bytes, as many as its kind says.
+pub fn frame_aad(kind: FrameKind, id: &[u8; 32], number: u32, len: usize) -> [u8; MAX_AAD]
+    ensures value { take (aad_length kind) result ≡ frame_aad id.now (is_final kind) number len }
 {
-    let mut aad = [0; 78];
-    put_aad(
-        &mut aad,
-        id,
-        b"AWSKMSEncryptionClient Final Frame",
-        number,
-        len,
-    );
+    let mut aad = [0; MAX_AAD];
+    write_aad(kind, id, number, len, &mut Writer::new(&mut aad)).unwrap();
     aad
 }

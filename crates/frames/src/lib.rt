@@ -4,13 +4,11 @@
 #![tactic(auto)]
 
 mod aad;
+mod cipher;
 mod frame;
 mod next;
-mod opened;
-mod seal;
 
-pub use aad::{final_aad, frame_nonce, regular_aad};
-pub use frame::{Frame, WrongLength};
+pub use aad::{frame_aad, frame_nonce};
+pub use cipher::{MessageCipher, header_tag, open_frame, seal_frame};
+pub use frame::{END_MARKER, Frame, FrameKind, KEY_LENGTH, TAG_LENGTH, WrongLength};
 pub use next::read_frame;
-pub use opened::open_frame;
-pub use seal::{header_tag, seal_final_frame, seal_regular_frame};

@@ -1,10 +1,12 @@
--- The tag's parts: the block of lengths, and GHASH of additional data, ciphertext and lengths one after the other.
-use Rattle.std.proofs.Common.{◌≡◌, ℕ, ◌+◌, ◌-◌, ◌*◌, ◌/◌, ◌%◌, ◌^◌, List, ◌++◌, length, sym, ap, ◌∙◌, ap₂, mul_comm, arith, length-append, take_all, drop_at}
+-- The tag's parts: the block of lengths, GHASH of additional data, ciphertext and lengths one after the other, and the sum with a block.
+use Rattle.std.proofs.Common.{◌≡◌, ℕ, zero, suc, ◌+◌, ◌-◌, ◌*◌, ◌/◌, ◌%◌, ◌^◌, ◌<◌, true, List, [], ◌∷◌, ◌++◌, length, sym, refl, ap, ◌∙◌, ap₂, mul_comm, arith, length-append, take_all, drop_at}
+use lib.Bits.{bit_xor, xor_mod, xor_shr}
 use lib.ListN.{length-replicate}
 use Rattle.octets.specs.Bits.{bits_xor}
-use Rattle.octets.specs.Bytes.{take, drop, repeat, to_bytes, number, of_bytes}
+use Rattle.octets.specs.Bytes.{take, drop, repeat, xor_bytes, to_bytes, number, of_bytes, all_bytes}
+use Rattle.octets.proofs.Bits.{bits_xor_is}
 use Rattle.octets.proofs.Lists.{take_is, drop_is, repeat_is}
-use Rattle.octets.proofs.Numbers.{number_append, number_shift, length-to_bytes, of_to_bytes_mod}
+use Rattle.octets.proofs.Numbers.{number_append, number_shift, length-to_bytes, of_to_bytes_mod, to_of_bytes}
 use Rattle.ghash.specs.Field.{product}
 use Rattle.ghash.specs.Ghash.{ghash, zero_padded}
 use Rattle.ghash.proofs.Blocks.{ghash_done, ghash_step, ghash_front, ghash_parts}
@@ -48,3 +50,24 @@ three_parts h a c l hl =
     ∙ (ghash-append n 1 h (ghash m h 0 p) q l lq
     ∙ (ghash_step 0 h z l
     ∙ (ghash_done h (product (bits_xor 128 z (of_bytes (take 16 l))) h) (drop 16 l) ∙ ap (λ ys. product (bits_xor 128 z (of_bytes ys)) h) (take_is 16 l ∙ take_all 16 l (omega arith)))))))
+
+-- what is written of two numbers under exclusive or
+xor_bytes-push : (xs ys : List ℕ) (x y : ℕ) → length xs ≡ length ys → xor_bytes (xs ++ (x ∷ [])) (ys ++ (y ∷ [])) ≡ xor_bytes xs ys ++ (bits_xor 8 x y ∷ [])
+unfolding xor_bytes
+xor_bytes-push [] [] x y h = refl
+xor_bytes-push [] (v ∷ ys) x y h = absurd (omega arith)
+xor_bytes-push (u ∷ xs) [] x y h = absurd (omega arith)
+xor_bytes-push (u ∷ xs) (v ∷ ys) x y h = ap (λ zs. bits_xor 8 u v ∷ zs) (xor_bytes-push xs ys x y (omega arith))
+
+to_bytes-xor : (k a b : ℕ) → to_bytes k (bit_xor a b) ≡ xor_bytes (to_bytes k a) (to_bytes k b)
+unfolding to_bytes xor_bytes
+to_bytes-xor zero a b = refl
+to_bytes-xor (suc k) a b =
+    let low : bit_xor a b % 256 ≡ bits_xor 8 (a % 256) (b % 256) = xor_mod a b 8 ∙ sym (bits_xor_is 8 (a % 256) (b % 256) (omega arith) (omega arith)) in
+    ap₂ (λ n r. to_bytes k n ++ (r ∷ [])) (xor_shr a b 8) low
+    ∙ (ap (λ zs. zs ++ (bits_xor 8 (a % 256) (b % 256) ∷ [])) (to_bytes-xor k (a / 256) (b / 256))
+    ∙ sym (xor_bytes-push (to_bytes k (a / 256)) (to_bytes k (b / 256)) (a % 256) (b % 256) (length-to_bytes k (a / 256) ∙ sym (length-to_bytes k (b / 256)))))
+
+pub tag_bytes : (a b : ℕ) (bs : List ℕ) → a < 2 ^ 128 → b < 2 ^ 128 → length bs ≡ 16 → all_bytes bs ≡ true → b ≡ of_bytes bs → to_bytes 16 (bits_xor 128 a b) ≡ xor_bytes (to_bytes 16 a) bs
+tag_bytes a b bs ha hb l h e =
+    ap (λ n. to_bytes 16 n) (bits_xor_is 128 a b ha hb) ∙ (to_bytes-xor 16 a b ∙ ap (λ ys. xor_bytes (to_bytes 16 a) ys) (ap (λ n. to_bytes 16 n) e ∙ to_of_bytes 16 bs l h))

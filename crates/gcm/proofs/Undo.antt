@@ -23,9 +23,6 @@ ctr_blocks_nil (suc n) c ks nonce = ctr_blocks_nil n (suc c) ks nonce
 length_front : (xs : List ℕ) → length (take 16 xs) ≡ min 16 (length xs)
 length_front xs = ap length (take_is 16 xs) ∙ length-takeN 16 xs
 
-length_back : (xs : List ℕ) → length (drop 16 xs) ≡ length xs - 16
-length_back xs = length-drop 16 xs
-
 masked_front : (ks b xs : List ℕ) → length ks ≡ 240 → length (xor_bytes (take 16 xs) (aes ks b)) ≡ min 16 (length xs)
 masked_front ks b xs h =
     let l = length_front xs in
@@ -39,7 +36,7 @@ length-ctr_blocks (suc n) c ks nonce bs hk h =
     let x : List ℕ = xor_bytes (take 16 bs) (aes ks b) in
     let s : List ℕ = ctr_blocks n (suc c) ks nonce (drop 16 bs) in
     let lx : length x ≡ min 16 (length bs) = masked_front ks b bs hk in
-    let lb = length_back bs in
+    let lb = length-drop 16 bs in
     let ls : length s ≡ length (drop 16 bs) = length-ctr_blocks n (suc c) ks nonce (drop 16 bs) hk (omega arith) in
     ap length (ctr_blocks_step n c ks nonce bs) ∙ (length-append x s ∙ omega arith)
 
@@ -54,7 +51,7 @@ ctr_blocks_twice (suc n) c ks nonce bs hk hb h =
     let lk : length k ≡ 16 = length-aes ks b hk in
     let lx : length x ≡ min 16 (length bs) = masked_front ks b bs hk in
     let lf : length (take 16 bs) ≡ min 16 (length bs) = length_front bs in
-    let lb : length (drop 16 bs) ≡ length bs - 16 = length_back bs in
+    let lb : length (drop 16 bs) ≡ length bs - 16 = length-drop 16 bs in
     let short : length bs < 16 → s ≡ [] =
     λ l. ap (λ ys. ctr_blocks n (suc c) ks nonce ys) (nil_from_length (drop 16 bs) (omega arith)) ∙ ctr_blocks_nil n (suc c) ks nonce in
     let front : take 16 (x ++ s) ≡ x =

@@ -18,8 +18,8 @@ abbrev pub Seals : (key nonce aad text old : List ℕ) → Option (List ℕ) →
 Seals key nonce aad text old (Some tag) out = SealedAs key nonce aad text old tag out
 Seals key nonce aad text old None out = NotSealed text old out
 
--- opened or not: where the lent bytes are as many as the ciphertext's, what they hold after true is what unsealing gives, and false is none;
--- where they aren't, it is false; and after false they are as they were
+-- opened or not: where the lent bytes are as many as the ciphertext's, what they hold once opened is what unsealing gives, and a refusal is none;
+-- where they aren't, it is refused; and then they are as they were
 pub record Opens (key nonce aad ciphertext tag old : List ℕ) (r : Bool) (out : List ℕ) : Type 0 where
   pub text : length old ≡ length ciphertext → pick r (out ∷ []) [] ≡ unseal key nonce aad (record { ciphertext = ciphertext; tag = tag })
   pub lacks : (length old ≢ length ciphertext) → r ≡ false

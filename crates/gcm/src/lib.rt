@@ -9,7 +9,7 @@ mod tag;
 mod theorem;
 
 pub use key::Key;
-pub use piece::{open, seal};
+pub use piece::{NotOpened, open, seal};
 pub use theorem::opening_undoes_sealing;
 
 #[cfg(test)]

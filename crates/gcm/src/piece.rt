@@ -1,4 +1,5 @@
 // One piece sealed, and opened.
+ghost use Rattle.std.specs.Prelude.{is_ok};
 ghost use Rattle.gcm.specs.Key.{key_of};
 ghost use Rattle.gcm.specs.Calls.{Seals, Opens};
 
@@ -6,6 +7,10 @@ use crate::counter::xor_keystream;
 use crate::key::Key;
 use crate::tag::compute_tag;
 use octets::equal_fixed;
+
+// The tag isn't right, or the lent bytes aren't as long as the ciphertext.
+#[derive(Clone, Copy, Debug, PartialEq, Eq)]
+pub struct NotOpened;
 
 // Writes the ciphertext over all of `out` and gives the tag; None where `out` isn't as long as the text, and then
 // nothing is written.
@@ -25,8 +30,8 @@ pub fn seal(
     Some(compute_tag(key, nonce, aad, out))
 }
 
-// Writes the text over all of `out`, where the tag is right; false where it isn't, or where `out` isn't as long as the
-// ciphertext, and then nothing is written.
+// Writes the text over all of `out`, where the tag is right and `out` is as long as the ciphertext; else nothing is
+// written.
 pub fn open(
     key: &Key,
     nonce: &[u8; 12],
@@ -34,16 +39,16 @@ pub fn open(
     ciphertext: &[u8],
     tag: &[u8; 16],
     out: &mut [u8],
-) -> bool
-    ensures value { Opens (key_of key.now) nonce.now aad.now ciphertext.now tag.now out.old result out.new }
+) -> Result<(), NotOpened>
+    ensures value { Opens (key_of key.now) nonce.now aad.now ciphertext.now tag.now out.old (is_ok result) out.new }
 {
     if out.len() != ciphertext.len() {
-        return false;
+        return Err(NotOpened);
     }
     let own = compute_tag(key, nonce, aad, ciphertext);
     if !equal_fixed(&own, tag) {
-        return false;
+        return Err(NotOpened);
     }
     xor_keystream(&key.keys, nonce, ciphertext, out);
-    true
+    Ok(())
 }

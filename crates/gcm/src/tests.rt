@@ -1,5 +1,5 @@
 // Test case 16 of the GCM specification: a key of 256 bits, additional data, and a last block that isn't whole.
-use crate::{Key, open, seal};
+use crate::{Key, NotOpened, open, seal};
 use octets::{equal, equal_fixed};
 use std::test::Fail;
 
@@ -31,7 +31,7 @@ fn seals(rt: HostRuntime) -> Result<(), Fail> {
 #[test]
 fn opens(rt: HostRuntime) {
     let mut out = [0; 60];
-    assert!(rt; open(&Key::new(KEY), NONCE, AAD, CIPHERTEXT, TAG, &mut out));
+    assert!(rt; open(&Key::new(KEY), NONCE, AAD, CIPHERTEXT, TAG, &mut out).is_ok());
     assert!(rt; equal(&out, TEXT));
 }
 
@@ -39,8 +39,8 @@ fn opens(rt: HostRuntime) {
 fn refuses_and_leaves(rt: HostRuntime) {
     let key = Key::new(KEY);
     let mut out = [7; 60];
-    assert!(rt; !open(&key, NONCE, &[], CIPHERTEXT, TAG, &mut out));
-    assert!(rt; !open(&key, NONCE, AAD, &[0; 59], TAG, &mut out));
+    assert!(rt; open(&key, NONCE, &[], CIPHERTEXT, TAG, &mut out) == Err(NotOpened));
+    assert!(rt; open(&key, NONCE, AAD, &[0; 59], TAG, &mut out) == Err(NotOpened));
     assert!(rt; seal(&key, NONCE, AAD, &[0; 59], &mut out).is_none());
     assert!(rt; equal(&out, &[7; 60]));
 }

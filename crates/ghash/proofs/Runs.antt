@@ -30,7 +30,7 @@ product_steps_split (suc m) n x v z =
     ∙ ap (λ k. product_steps n x (times_power m (times_x v)) k) (sym (product_steps_bit m (x / 2 ^ n) v z (bit x (m + n)) b))))
 
 -- only the low bits count
-bit_of_low : (x j n : ℕ) → bit (x % 2 ^ (suc j + n)) n ≡ bit x n
+pub bit_of_low : (x j n : ℕ) → bit (x % 2 ^ (suc j + n)) n ≡ bit x n
 bit_of_low x j n =
     let e : suc j ≡ j + 1 = omega arith in
     ap (λ k. k % 2) (field x (suc j) n ∙ ap (λ k. x / 2 ^ n % 2 ^ k) e) ∙ mod-mod-pow (x / 2 ^ n) j 1

@@ -1,5 +1,5 @@
 -- The product, step by step. `product_steps` is opened only at an open count, since at 128 it would unroll.
-use Rattle.std.proofs.Common.{◌≡◌, ℕ, zero, suc, ◌+◌, ◌-◌, ◌/◌, ◌%◌, ◌<◌, ◌≤◌, eqb, sym, refl, ap, ◌∙◌, ap₂, arith}
+use Rattle.std.proofs.Common.{◌≡◌, ℕ, zero, suc, ◌+◌, ◌-◌, ◌/◌, ◌%◌, ◌<◌, eqb, sym, refl, ap, ◌∙◌, ap₂, arith}
 use Rattle.octets.specs.Bits.{pick, bits_xor, pow2}
 use Rattle.ghash.specs.Field.{product_steps}
 use Rattle.ghash.specs.Steps.{times_x}
@@ -22,7 +22,5 @@ product_turn i x v z w y bit r hi hb hy hw inv =
     ∙ (sym (product_steps_step (127 - i) x v z)
     ∙ (ap (λ n. product_steps n x v z) f ∙ inv)))
 
-pub product_end : (i x v z r : ℕ) → 128 ≤ i → product_steps (128 - i) x v z ≡ r → z ≡ r
-product_end i x v z r hi inv =
-    let e : 0 ≡ 128 - i = omega arith in
-    sym (product_steps_done x v z) ∙ (ap (λ n. product_steps n x v z) e ∙ inv)
+pub product_end : (n x v z r : ℕ) → n ≡ 0 → product_steps n x v z ≡ r → z ≡ r
+product_end n x v z r e inv = sym (product_steps_done x v z) ∙ (ap (λ k. product_steps k x v z) (sym e) ∙ inv)

@@ -1,5 +1,5 @@
 // GHASH: blocks taken into a state one by one.
-ghost use Rattle.std.specs.Prelude.{◌≡◌, ◌+◌, ◌-◌, ◌*◌, ◌/◌, ◌≤◌, ◌++◌, length};
+ghost use Rattle.std.specs.Prelude.{◌≡◌, ◌-◌, ◌/◌, ◌≤◌, ◌++◌, length};
 ghost use Rattle.octets.specs.Bits.{bits_xor};
 ghost use Rattle.octets.specs.Bytes.{repeat};
 ghost use Rattle.ghash.specs.Field.{product};
@@ -7,25 +7,14 @@ ghost use Rattle.ghash.specs.Ghash.{ghash, zero_padded};
 ghost use Rattle.ghash.specs.Element.{value};
 ghost use Rattle.ghash.specs.Table.{hash_key_of};
 
-use crate::element::{Element, element_at};
+use crate::element::Element;
 use crate::table::Table;
 
 // One block more.
 pub fn hash_block(table: &Table, state: Element, block: Element) -> Element
     ensures value { value result ≡ product (bits_xor 128 (value state) (value block)) (hash_key_of table.now) }
 {
-    table.times(state.add(block))
-}
-
-// The whole blocks of `bytes`; what comes after them isn't hashed.
-fn hash_whole(table: &Table, state: Element, bytes: &[u8]) -> Element
-    ensures { value result ≡ ghash (length bytes.now / 16) (hash_key_of table.now) (value state) bytes.now }
-{
-    let mut s = state;
-    for i in 0..bytes.len() / 16 {
-        s = hash_block(table, s, element_at(bytes, 16 * i));
-    }
-    s
+    table.times(state + block)
 }
 
 // At most sixteen bytes, and zeros up to sixteen.
@@ -33,22 +22,22 @@ fn filled(bytes: &[u8]) -> [u8; 16]
     requires { length bytes.now ≤ 16 }
     ensures { result ≡ bytes.now ++ repeat (16 - length bytes.now) 0 }
 {
-    let mut block = [0u8; 16];
-    for i in 0..bytes.len() {
-        block[i] = bytes[i];
-    }
+    let mut block = [0; 16];
+    block[..bytes.len()].copy_from_slice(bytes);
     block
 }
 
-// All of `bytes`, with zeros up to a whole block.
+// All of `bytes`, with zeros up to a whole block. They are additional data or ciphertext, so public, and gone through by an iterator.
 pub fn hash_padded(table: &Table, state: Element, bytes: &[u8]) -> Element
     ensures value { value result ≡ ghash (length (zero_padded bytes.now) / 16) (hash_key_of table.now) (value state) (zero_padded bytes.now) }
 {
-    let s = hash_whole(table, state, bytes);
-    let whole = bytes.len() / 16 * 16;
-    if whole == bytes.len() {
+    let (blocks, rest) = bytes.as_chunks::<16>();
+    let mut s = state;
+    for block in blocks {
+        s = hash_block(table, s, Element::from_bytes(block));
+    }
+    if rest.is_empty() {
         return s;
     }
-    let last = filled(&bytes[whole..]);
-    hash_block(table, s, Element::from_bytes(&last))
+    hash_block(table, s, Element::from_bytes(&filled(rest)))
 }

@@ -8,7 +8,8 @@ use crate::element::Element;
 
 mod times;
 
-// Row `k` is `h` times x^k, in one word of each of the four tables.
+// Row `k` is `h` times x^k, in one word of each of the four tables. They are four arrays, so that four rows are added at
+// once; with the rows in one array a product takes twice as long, or more.
 #[derive(Drop)]
 pub struct Table {
     h: Element,

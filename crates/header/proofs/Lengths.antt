@@ -1,7 +1,6 @@
 -- How long fields, pairs, data keys and headers are.
-use Rattle.std.proofs.Common.{◌≡◌, ℕ, suc, ◌+◌, ◌*◌, ◌<◌, ◌≤◌, Bool, true, false, cond, ◌&&◌, ltb, leb, ◌⊎◌, List, [], ◌∷◌, ◌++◌, length, get_or, drop, Some, None, Option, sym, refl, ap, ◌∙◌, arith, length-append}
-use Rattle.std.proofs.lemmas.List.{drop_more, drop_all}
-use Rattle.std.proofs.lemmas.Bool.{lt-ltb, le-leb, lt-leb, and_left, and_right, and_from, and_parts, leb-true, cond-true, cond-false}
+use Rattle.std.proofs.Common.{◌≡◌, ℕ, suc, ◌+◌, ◌*◌, ◌<◌, ◌≤◌, Bool, true, false, cond, ◌&&◌, ltb, leb, ◌⊎◌, List, [], ◌∷◌, ◌++◌, length, Some, None, Option, sym, refl, ap, ◌∙◌, arith, length-append}
+use Rattle.std.proofs.lemmas.Bool.{lt-ltb, le-leb, and_right, and_from, and_parts, leb-true, cond-true, cond-false}
 use Rattle.std.proofs.lemmas.Bool.Decides.{nat_tests}
 use Rattle.octets.specs.Bytes.{to_bytes}
 use Rattle.octets.proofs.Numbers.{length-to_bytes}
@@ -9,11 +8,10 @@ use Rattle.format.specs.Request as Rq
 use Rattle.format.specs.Request.{field, pairs_bytes, short_pairs, data_keys_bytes, short_data_keys}
 use Rattle.format.specs.Header as Hd
 use Rattle.format.specs.Header.{context_bytes, header_bytes}
-use Rattle.header.specs.Models.{pairs, data_key, data_keys}
-use Rattle.header.specs.Checked.{pairs_length, context_length, short_data_key, data_keys_length}
+use Rattle.header.specs.Models.{pairs, data_keys}
+use Rattle.header.specs.Checked.{data_keys_length}
 use Rattle.header.specs.declared.request.Pair.{Pair}
 use Rattle.header.specs.declared.request.EncryptedDataKey.{EncryptedDataKey}
-use Rattle.header.proofs.Rising.{no_pair}
 
 pub length-field : (t : List ℕ) → length (field t) ≡ 2 + length t
 length-field t = length-append (to_bytes 2 (length t)) t ∙ ap (λ n. n + length t) (length-to_bytes 2 (length t))
@@ -22,34 +20,6 @@ pub length_pairs : (p : Rq.Pair) (ps : List Rq.Pair) → length (pairs_bytes (p 
 unfolding pairs_bytes
 length_pairs p ps =
     omega (arith, length-append (field p.name) (field p.value ++ pairs_bytes ps), length-append (field p.value) (pairs_bytes ps), length-field p.name, length-field p.value)
-
--- pairs from a place on
-pub pairs_more : (ps : List Pair) (i : ℕ) → i < length ps → length (pairs_bytes (pairs (drop i ps))) ≡ 4 + length (get_or ps i no_pair).name.now + length (get_or ps i no_pair).value.now + length (pairs_bytes (pairs (drop (i + 1) ps)))
-pairs_more ps i h = rw (drop_more ps i no_pair h) (length_pairs _ _)
-
-pub short_pairs_more : (ps : List Pair) (i : ℕ) → i < length ps → length (get_or ps i no_pair).name.now ≤ 65535 → length (get_or ps i no_pair).value.now ≤ 65535 → short_pairs (pairs (drop (i + 1) ps)) ≡ short_pairs (pairs (drop i ps))
-unfolding short_pairs
-short_pairs_more ps i h k v = rw (drop_more ps i no_pair h) (simp (le-leb _ _ k, le-leb _ _ v))
-
-one_long : (n v : ℕ) → (65535 < n) ⊎ (65535 < v) → (leb n 65535 && leb v 65535) ≡ false
-one_long n v e = grind (arith, nat_tests)
-
-pub short_pairs_not : (ps : List Pair) (i : ℕ) → i < length ps → (65535 < length (get_or ps i no_pair).name.now) ⊎ (65535 < length (get_or ps i no_pair).value.now) → short_pairs (pairs (drop i ps)) ≡ false
-unfolding short_pairs
-short_pairs_not ps i h e = rw (drop_more ps i no_pair h) (and_left _ _ (one_long _ _ e))
-
-pub pairs_end : (ps : List Pair) (i : ℕ) → length ps ≤ i → (length (pairs_bytes (pairs (drop i ps))) ≡ 0) × (short_pairs (pairs (drop i ps)) ≡ true)
-unfolding pairs_bytes short_pairs
-pairs_end ps i h = rw (drop_all i ps h) (refl, refl)
-
-pub pairs_part_long : (ps : List Rq.Pair) → short_pairs ps ≡ false → None ≡ pairs_length ps
-pairs_part_long ps h = sym (cond-false _ _ _ (and_left _ _ h))
-
-pub pairs_all_long : (ps : List Rq.Pair) → 65533 < length (pairs_bytes ps) → None ≡ pairs_length ps
-pairs_all_long ps h = sym (cond-false _ _ _ (and_right (short_pairs ps) _ (lt-leb _ _ (omega arith))))
-
-pub pairs_fit : (ps : List Rq.Pair) (n : ℕ) → n ≡ length (pairs_bytes ps) → n ≤ 65533 → short_pairs ps ≡ true → Some n ≡ pairs_length ps
-pairs_fit ps n e h s = ap Some e ∙ sym (cond-true _ _ _ (and_from _ _ s (le-leb _ _ (omega arith))))
 
 pub length-pairs_model : (ps : List Pair) → length (pairs ps) ≡ length ps
 length-pairs_model [] = refl
@@ -71,40 +41,6 @@ context_some (p ∷ ps) h =
 pub context_short : (ps : List Pair) → length (context_bytes (pairs ps)) ≤ 4 + length (pairs_bytes (pairs ps))
 context_short [] = omega (arith, context_none [] refl)
 context_short (p ∷ ps) = omega (arith, context_some (p ∷ ps) (λ z. omega arith))
-
--- what an element past the end reads as
-abbrev pub no_data_key : EncryptedDataKey
-no_data_key =
-    record { provider_id = record { ref_ptr = (0, 0); now = [] }; provider_info = record { ref_ptr = (0, 0); now = [] }; ciphertext = record { ref_ptr = (0, 0); now = [] } }
-
--- data keys from a place on
-pub data_keys_more : (ks : List EncryptedDataKey) (i : ℕ) → i < length ks → length (data_keys_bytes (data_keys (drop i ks))) ≡ 6 + length (get_or ks i no_data_key).provider_id.now + length (get_or ks i no_data_key).provider_info.now + length (get_or ks i no_data_key).ciphertext.now + length (data_keys_bytes (data_keys (drop (i + 1) ks)))
-unfolding data_keys_bytes
-data_keys_more ks i h =
-    rw (drop_more ks i no_data_key h) (
-    let p = (get_or ks i no_data_key).provider_id.now in
-    let n = (get_or ks i no_data_key).provider_info.now in
-    let w = (get_or ks i no_data_key).ciphertext.now in
-    let r = data_keys_bytes (data_keys (drop (i + 1) ks)) in
-    omega (arith, length-append (field p) (field n ++ (field w ++ r)), length-append (field n) (field w ++ r), length-append (field w) r, length-field p, length-field n, length-field w))
-
-pub short_data_keys_more : (ks : List EncryptedDataKey) (i : ℕ) → i < length ks → true ≡ short_data_key (data_key (get_or ks i no_data_key)) → short_data_keys (data_keys (drop (i + 1) ks)) ≡ short_data_keys (data_keys (drop i ks))
-unfolding short_data_keys
-short_data_keys_more ks i h e = rw (drop_more ks i no_data_key h) (ap (λ b. b && short_data_keys (data_keys (drop (i + 1) ks))) e)
-
-pub short_data_keys_not : (ks : List EncryptedDataKey) (i : ℕ) → i < length ks → false ≡ short_data_key (data_key (get_or ks i no_data_key)) → short_data_keys (data_keys (drop i ks)) ≡ false
-unfolding short_data_keys
-short_data_keys_not ks i h e = rw (drop_more ks i no_data_key h) (and_left _ _ (sym e))
-
-pub short_three : (ks : List EncryptedDataKey) (i : ℕ) → true ≡ short_data_key (data_key (get_or ks i no_data_key)) → (length (get_or ks i no_data_key).provider_id.now ≤ 65535) × (length (get_or ks i no_data_key).provider_info.now ≤ 65535) × (length (get_or ks i no_data_key).ciphertext.now ≤ 65535)
-short_three ks i e =
-    let s = and_parts _ _ (sym e) in
-    let t = and_parts _ _ s.1 in
-    (leb-true _ _ s.0, leb-true _ _ t.0, leb-true _ _ t.1)
-
-pub data_keys_end : (ks : List EncryptedDataKey) (i : ℕ) → length ks ≤ i → (length (data_keys_bytes (data_keys (drop i ks))) ≡ 0) × (short_data_keys (data_keys (drop i ks)) ≡ true)
-unfolding data_keys_bytes short_data_keys
-data_keys_end ks i h = rw (drop_all i ks h) (refl, refl)
 
 pub length-data_keys_model : (ks : List EncryptedDataKey) → length (data_keys ks) ≡ length ks
 length-data_keys_model [] = refl
@@ -157,19 +93,6 @@ pub some_cond : {A : Type 0} (b : Bool) (x a : A) → Some a ≡ cond b (Some x)
 some_cond true x a e = (refl, ap (λ o. given_or x o) e)
 some_cond false x a e = absurd (let z : ◌≡◌ {A = ℕ} 1 0 = ap (λ o. is_given o) e in omega arith)
 
-pub record ContextTold (ps : List Rq.Pair) (n : ℕ) : Type 0 where
-  pub long : n ≡ length (pairs_bytes ps)
-  pub fits : n ≤ 65533
-  pub short : short_pairs ps ≡ true
-
-pub context_told : (ps : List Rq.Pair) (n : ℕ) → Some n ≡ context_length ps → ContextTold ps n
-context_told ps n e =
-    let s = some_cond _ _ _ e in
-    let b = and_parts _ _ s.0 in
-    let l : 2 + length (pairs_bytes ps) ≤ 65535 = leb-true _ _ b.1 in
-    let e : n ≡ length (pairs_bytes ps) = s.1 in
-    record { long = e; fits = omega arith; short = (and_parts _ _ b.0).1 }
-
 pub record DataKeysTold (ks : List Rq.EncryptedDataKey) (n : ℕ) : Type 0 where
   pub long : n ≡ length (data_keys_bytes ks)
   pub fits : n ≤ 12884901885
@@ -192,6 +115,12 @@ data_keys_small (k ∷ ks) e =
     let i : List ℕ = field k.provider_info in
     let w : List ℕ = field k.ciphertext in
     omega (arith, length-append p (i ++ (w ++ r)), length-append i (w ++ r), length-append w r, length-field k.provider_id, length-field k.provider_info, length-field k.ciphertext)
+
+pub data_keys_bounded : (ks : List EncryptedDataKey) → length ks ≤ 65535 → short_data_keys (data_keys ks) ≡ true → length (data_keys_bytes (data_keys ks)) ≤ 12884901885
+data_keys_bounded ks l s =
+    let m : length (data_keys_bytes (data_keys ks)) ≤ 196611 * length (data_keys ks) = data_keys_small (data_keys ks) s in
+    let n = length-data_keys_model ks in
+    omega arith
 
 pub data_keys_told : (ks : List Rq.EncryptedDataKey) (n : ℕ) → Some n ≡ data_keys_length ks → DataKeysTold ks n
 data_keys_told ks n e =

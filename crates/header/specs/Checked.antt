@@ -20,11 +20,15 @@ answer_number (Err e) = refusal_number e
 abbrev pub array_32 : List ℕ → Option (List ℕ)
 array_32 bs = cond (length bs == 32) (Some bs) None
 
--- how long the pairs' bytes are, if each part and all of them fit a field
-abbrev pub pairs_length : List Rq.Pair → Option ℕ
-pairs_length ps = cond (short_pairs ps && nat_le (2 + length (pairs_bytes ps)) 65535) (Some (length (pairs_bytes ps))) None
+-- how many bytes there are, if the test holds
+abbrev pub length_if : Bool → List ℕ → Option ℕ
+length_if b bs = cond b (Some (length bs)) None
 
--- the same, if the names rise too
+-- the same, if a number of 64 bits can say it
+abbrev pub short_length_if : Bool → List ℕ → Option ℕ
+short_length_if b bs = length_if (b && nat_lt (length bs) 18446744073709551616) bs
+
+-- how long the pairs' bytes are, if the names rise and each part and all of them fit a field
 abbrev pub context_length : List Rq.Pair → Option ℕ
 context_length ps = cond ((rising ps && short_pairs ps) && nat_le (2 + length (pairs_bytes ps)) 65535) (Some (length (pairs_bytes ps))) None
 

@@ -2,3 +2,4 @@ pub mod Refusal
 pub mod Models
 pub mod Checked
 pub mod Written
+pub mod Asked

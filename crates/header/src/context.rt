@@ -1,66 +1,71 @@
-// The encryption context of a request: the order of its names, and how long its bytes are.
-ghost use Rattle.std.specs.Prelude.{◌≡◌, ◌+◌, ◌<◌, ◌≤◌, length};
-ghost use Rattle.format.specs.Request.{rising, pairs_bytes};
+// The encryption context of a request that passed its checks.
+ghost use Rattle.std.specs.Prelude.{◌≡◌, ◌+◌, ◌≤◌, true, length, IfSome, option_map};
+ghost use Rattle.octets.specs.Writing.{Writes};
+ghost use Rattle.format.specs.Request.{rising, pairs_bytes, short_pairs};
 ghost use Rattle.format.specs.Header.{context_bytes};
-ghost use Rattle.header.specs.Models.{pairs};
-ghost use Rattle.header.specs.Checked.{pairs_length, context_length};
+ghost use Rattle.header.specs.Models.{pairs as pairs_of};
+ghost use Rattle.header.specs.Checked.{context_length};
 
+use crate::part::{parts_len, put_parts};
 use crate::request::Pair;
 use crate::suite::MAX_FIELD;
-use octets::less;
+use octets::{Writer, less};
 
 // the pairs' bytes and two more are a field
 const MAX_PAIRS: usize = MAX_FIELD - 2;
 
 // whether each name comes before the next
-fn names_rise(context: &[Pair]) -> bool
-    ensures { result ≡ rising (pairs context.now) }
+fn names_rise(pairs: &[Pair]) -> bool
+    ensures { result ≡ rising (pairs_of pairs.now) }
 {
-    let mut i = 1;
-    while i < context.len() {
-        if !less(context[i - 1].name, context[i].name) {
-            return false;
-        }
-        i += 1;
-    }
-    true
+    pairs.is_sorted_by(|a, b| less(a.name, b.name))
 }
 
-// how long the pairs' bytes are; none if a part, or all, is too long for a field
-fn pairs_len(context: &[Pair]) -> Option<usize>
-    ensures { result ≡ pairs_length (pairs context.now) }
-{
-    let mut len: usize = 0;
-    for pair in context {
-        if pair.name.len() > MAX_FIELD || pair.value.len() > MAX_FIELD {
+// pairs that fit a field, and how many bytes they have
+#[derive(Clone, Copy)]
+pub struct Context<'c, 'n, 'v> {
+    pairs: &'c [Pair<'n, 'v>],
+    pub pairs_len: usize,
+
+    ghost long: { pairs_len ≡ length (pairs_bytes (pairs_of pairs.now)) },
+    ghost fits: { pairs_len ≤ 65533 },
+    ghost short: { short_pairs (pairs_of pairs.now) ≡ true },
+}
+
+impl<'c, 'n, 'v> Context<'c, 'n, 'v> {
+    // None where the names do not rise, or a name, a value or all of them are too long
+    pub fn checked(pairs: &'c [Pair<'n, 'v>]) -> Option<Context<'c, 'n, 'v>>
+        ensures value { option_map (λ c. c.pairs_len) result ≡ context_length (pairs_of pairs.now) }
+        ensures same { IfSome result (λ c. c.pairs.now ≡ pairs.now) }
+    {
+        if !names_rise(pairs) {
             return None;
         }
-        len += 4 + pair.name.len() + pair.value.len();
-        if len > MAX_PAIRS {
+        let pairs_len = parts_len(pairs)?;
+        if pairs_len > MAX_PAIRS {
             return None;
         }
+        Some(Context { pairs, pairs_len })
     }
-    Some(len)
-}
 
-// how long the pairs' bytes are, if the names rise and all fits
-pub fn check_context(context: &[Pair]) -> Option<usize>
-    ensures { result ≡ context_length (pairs context.now) }
-{
-    if !names_rise(context) {
-        return None;
+    // how many bytes it has in a header
+    pub fn len(self) -> usize
+        ensures { result ≡ length (context_bytes (pairs_of self.entry.pairs.now)) }
+    {
+        if self.pairs.is_empty() {
+            return 2;
+        }
+        4 + self.pairs_len
     }
-    pairs_len(context)
-}
 
-// how long a context is whose pairs' bytes are so many
-pub fn context_len(context: &[Pair], pairs_len: usize) -> usize
-    requires is { pairs_len ≡ length (pairs_bytes (pairs context.now)) }
-    requires fits { pairs_len ≤ 65533 }
-    ensures { result ≡ length (context_bytes (pairs context.now)) }
-{
-    if context.is_empty() {
-        return 2;
+    // two bytes 0 for no pair; otherwise a field of the count and the pairs
+    pub fn put(self, to: &mut Writer) -> Option<()>
+        ensures { Writes to.old (context_bytes (pairs_of self.entry.pairs.now)) result to.new }
+    {
+        if self.pairs.is_empty() {
+            return to.put_number(0u16);
+        }
+        to.put_number((2 + self.pairs_len) as u16)?;
+        put_parts(to, self.pairs)
     }
-    4 + pairs_len
 }

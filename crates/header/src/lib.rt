@@ -4,9 +4,11 @@
 // written is the format's header, byte for byte, and nothing else changes; where it is refused, nothing is written.
 #![tactic(auto)]
 
+mod asked;
 mod checks;
 mod context;
 mod data_keys;
+mod part;
 mod passed;
 mod refusal;
 mod request;

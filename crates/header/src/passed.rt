@@ -1,4 +1,4 @@
-// What is handed on of a request that passed its checks.
+// What is handed on of a request that passed its checks: numbers, for callers that hold the request, so no type's fact ties them to it.
 
 // of a header that isn't refused: its id by value, how long its pairs' bytes are, and how long it is itself, without its tag
 #[derive(Clone, Copy)]

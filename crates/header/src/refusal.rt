@@ -3,7 +3,7 @@ ghost use Rattle.std.specs.Prelude.{◌≡◌};
 ghost use Rattle.header.specs.Refusal.{refusal_number};
 
 // the first that applies is told, in the order 2, 3, 4, 5, 1 of their numbers
-#[derive(Clone, Copy, Debug, PartialEq)]
+#[derive(Clone, Copy, Debug, PartialEq, Eq)]
 pub enum SealRefusal {
     // the lent bytes aren't as long as what is to be written
     OutLength,

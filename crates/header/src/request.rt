@@ -1,14 +1,14 @@
 // What a request says, over bytes that are lent.
 
 // one pair of the encryption context
-#[derive(Clone, Copy)]
+#[derive(Clone, Copy, Debug, PartialEq, Eq)]
 pub struct Pair<'n, 'v> {
     pub name: &'n [u8],
     pub value: &'v [u8],
 }
 
 // the data key as some provider encrypted it
-#[derive(Clone, Copy)]
+#[derive(Clone, Copy, Debug, PartialEq, Eq)]
 pub struct EncryptedDataKey<'p, 'i, 'c> {
     pub provider_id: &'p [u8],
     pub provider_info: &'i [u8],

@@ -20,16 +20,13 @@ fn data_key<'p, 'i, 'c>(
     }
 }
 
-// the number of a header's refusal, or 0
-fn refusal(header: HeaderRequest) -> u8 {
-    match check_header(header) {
-        Ok(_) => 0,
-        Err(refusal) => refusal.number(),
-    }
+// the number of a header's refusal, if it is refused
+fn refusal(header: HeaderRequest) -> Option<u8> {
+    Some(check_header(header).err()?.number())
 }
 
 // the same where all but one part is fine
-fn context_refusal(context: &[Pair]) -> u8 {
+fn context_refusal(context: &[Pair]) -> Option<u8> {
     let keys = [data_key(b"x", b"y", b"z")];
     refusal(HeaderRequest {
         id: &[7; 32],
@@ -39,17 +36,22 @@ fn context_refusal(context: &[Pair]) -> u8 {
     })
 }
 
-fn two_names(first: &[u8], second: &[u8]) -> u8 {
+fn two_names(first: &[u8], second: &[u8]) -> Option<u8> {
     let context = [pair(first, b"1"), pair(second, b"2")];
     context_refusal(&context)
 }
 
-fn one_pair(name: &[u8], value: &[u8]) -> u8 {
+fn one_pair(name: &[u8], value: &[u8]) -> Option<u8> {
     let context = [pair(name, value)];
     context_refusal(&context)
 }
 
-fn some_data_keys(count: usize, provider_id: &[u8], provider_info: &[u8], ciphertext: &[u8]) -> u8 {
+fn some_data_keys(
+    count: usize,
+    provider_id: &[u8],
+    provider_info: &[u8],
+    ciphertext: &[u8],
+) -> Option<u8> {
     let keys = [data_key(provider_id, provider_info, ciphertext)];
     let some = if count == 0 { &keys[0..0] } else { &keys[0..1] };
     refusal(HeaderRequest {
@@ -60,8 +62,8 @@ fn some_data_keys(count: usize, provider_id: &[u8], provider_info: &[u8], cipher
     })
 }
 
-// the number of a request's refusal, whose context has one pair or a second of the same name
-fn request_refusal(key: &[u8], id: &[u8], frame_length: u32, twice: bool) -> u8 {
+// the number of the refusal of a request whose context has one pair or a second of the same name
+fn request_refusal(key: &[u8], id: &[u8], frame_length: u32, twice: bool) -> Option<u8> {
     let context = [pair(b"a", b"1"), pair(b"a", b"1")];
     let keys = [data_key(b"x", b"y", b"z")];
     let pairs = if twice {
@@ -75,14 +77,12 @@ fn request_refusal(key: &[u8], id: &[u8], frame_length: u32, twice: bool) -> u8 
         encrypted_data_keys: &keys,
         frame_length,
     };
-    match check(Request {
+    let request = Request {
         key,
         header,
         text: b"text",
-    }) {
-        Ok(_) => 0,
-        Err(refusal) => refusal.number(),
-    }
+    };
+    Some(check(request).err()?.number())
 }
 
 #[test]
@@ -126,32 +126,32 @@ fn small_header(rt: HostRuntime) {
 #[test]
 fn refused_headers(rt: HostRuntime) {
     let long = [1; 65_536];
-    assert_eq!(rt; two_names(b"a", b"b"), 0);
-    assert_eq!(rt; two_names(b"a", b"ab"), 0);
-    assert_eq!(rt; two_names(b"ab", b"a"), 3);
-    assert_eq!(rt; two_names(b"a", b"a"), 3);
-    assert_eq!(rt; one_pair(b"", &long[0..65_529]), 0);
-    assert_eq!(rt; one_pair(b"", &long[0..65_530]), 3);
-    assert_eq!(rt; one_pair(&long, b""), 3);
-    assert_eq!(rt; some_data_keys(0, b"", b"", b""), 4);
-    assert_eq!(rt; some_data_keys(1, b"", b"", b""), 0);
-    assert_eq!(rt; some_data_keys(1, b"x", b"y", &long[0..65_535]), 0);
-    assert_eq!(rt; some_data_keys(1, b"x", b"y", &long), 4);
-    assert_eq!(rt; some_data_keys(1, b"x", &long, b"z"), 4);
-    assert_eq!(rt; some_data_keys(1, &long, b"y", b"z"), 4);
+    assert_eq!(rt; two_names(b"a", b"b"), None);
+    assert_eq!(rt; two_names(b"a", b"ab"), None);
+    assert_eq!(rt; two_names(b"ab", b"a"), Some(3));
+    assert_eq!(rt; two_names(b"a", b"a"), Some(3));
+    assert_eq!(rt; one_pair(b"", &long[0..65_529]), None);
+    assert_eq!(rt; one_pair(b"", &long[0..65_530]), Some(3));
+    assert_eq!(rt; one_pair(&long, b""), Some(3));
+    assert_eq!(rt; some_data_keys(0, b"", b"", b""), Some(4));
+    assert_eq!(rt; some_data_keys(1, b"", b"", b""), None);
+    assert_eq!(rt; some_data_keys(1, b"x", b"y", &long[0..65_535]), None);
+    assert_eq!(rt; some_data_keys(1, b"x", b"y", &long), Some(4));
+    assert_eq!(rt; some_data_keys(1, b"x", &long, b"z"), Some(4));
+    assert_eq!(rt; some_data_keys(1, &long, b"y", b"z"), Some(4));
 }
 
 #[test]
 fn refused_requests(rt: HostRuntime) {
-    assert_eq!(rt; request_refusal(&[1; 32], &[7; 32], 1, false), 0);
+    assert_eq!(rt; request_refusal(&[1; 32], &[7; 32], 1, false), None);
     assert_eq!(rt;
         request_refusal(&[1; 32], &[7; 32], 4_294_967_295, false),
-        0
+        None
     );
-    assert_eq!(rt; request_refusal(&[1; 31], &[7; 32], 1, false), 2);
-    assert_eq!(rt; request_refusal(&[1; 32], &[7; 33], 1, false), 2);
-    assert_eq!(rt; request_refusal(&[1; 32], &[7; 32], 0, true), 2);
-    assert_eq!(rt; request_refusal(&[1; 32], &[7; 32], 1, true), 3);
+    assert_eq!(rt; request_refusal(&[1; 31], &[7; 32], 1, false), Some(2));
+    assert_eq!(rt; request_refusal(&[1; 32], &[7; 33], 1, false), Some(2));
+    assert_eq!(rt; request_refusal(&[1; 32], &[7; 32], 0, true), Some(2));
+    assert_eq!(rt; request_refusal(&[1; 32], &[7; 32], 1, true), Some(3));
     assert_eq!(rt; text_fits(4_294_967_295, 1), true);
     assert_eq!(rt; text_fits(4_294_967_296, 1), false);
     assert_eq!(rt; text_fits(9_223_372_036_854_775_807, 4_294_967_295), true);

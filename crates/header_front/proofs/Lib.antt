@@ -1,2 +1,1 @@
 mod Settling
-mod Skips

@@ -13,10 +13,9 @@ use Rattle.format.proofs.FieldsRead.{data_keys_put, data_keys_read}
 use Rattle.format.proofs.Further.{header_grows}
 use Rattle.format.proofs.Headers.{header_read}
 use Rattle.format.specs.Header.{header_bytes}
-use Rattle.header_read.specs.Parts.{data_keys_rest}
 use Rattle.header_front.specs.Front.{HeaderWhole}
 use Rattle.opening.proofs.Unlocking.{drop_front}
-use Rattle.header_front.specs.Settled.{Settles, with_more, field_rest, read_end, read_tail, read_data_keys_on}
+use Rattle.header_front.specs.Settled.{Settles, with_more, read_end, read_tail, read_data_keys_on}
 
 cut_grown : (n : ℕ) (bs a r more : List ℕ) → (the_cut a r ∷ []) ≡ cut n bs → (the_cut a (r ++ more) ∷ []) ≡ cut n (bs ++ more)
 cut_grown n bs a r more e =
@@ -61,18 +60,17 @@ tail_settles id ps ks bs a r e h =
     (settle_guard (ltb 0 w.0) (read_end id ps ks w.0) w.1.0 (λ l. end_settles id ps ks w.0 w.1.0 (w.1.1.1 l)))))
 
 -- the encrypted data keys
-keys_settle : (id : List ℕ) (ps : List Pair) (n : ℕ) (bs rest : List ℕ) → all_bytes bs ≡ true → (rest ∷ []) ≡ data_keys_rest n bs → ((ks : List EncryptedDataKey) → Settles rest (read_tail id ps ks))
+abbrev the_data_keys : List EncryptedDataKey → List ℕ → ReadDataKeys
+the_data_keys ks r = record { encrypted_data_keys = ks; rest = r }
+
+keys_settle : (id : List ℕ) (ps : List Pair) (n : ℕ) (bs : List ℕ) (ks : List EncryptedDataKey) (rest : List ℕ) → all_bytes bs ≡ true → (the_data_keys ks rest ∷ []) ≡ read_data_keys n bs → Settles rest (read_tail id ps ks)
     → Settles bs (λ xs. and_then (read_data_keys n xs) (λ h. read_tail id ps h.encrypted_data_keys h.rest))
-keys_settle id ps n bs rest b e h more =
-    let x = and_then_gave (read_data_keys n bs) (λ ks. ks.rest ∷ []) rest [] (sym e) in
-    let ks : ReadDataKeys = x.one in
-    let i : ks.rest ≡ rest = first_is_first ks.rest rest [] [] x.then in
-    let r = data_keys_read n bs ks x.more b x.here in
-    let g : read_data_keys n (bs ++ more) ≡ record { encrypted_data_keys = ks.encrypted_data_keys; rest = ks.rest ++ more } ∷ [] = ap (λ j. read_data_keys j (bs ++ more)) (sym r.count) ∙ ap (λ l. read_data_keys (length ks.encrypted_data_keys) l) (sym (ap (λ l. l ++ more) r.written) ∙ append_assoc _ ks.rest more) ∙ data_keys_put ks.encrypted_data_keys (ks.rest ++ more) r.short_all in
-    let s : read_data_keys n bs ≡ ks ∷ [] = ap (λ j. read_data_keys j bs) (sym r.count) ∙ ap (λ l. read_data_keys (length ks.encrypted_data_keys) l) (sym r.written) ∙ data_keys_put ks.encrypted_data_keys ks.rest r.short_all in
-    sym (and_then_some (record { encrypted_data_keys = ks.encrypted_data_keys; rest = ks.rest ++ more }) (read_data_keys n (bs ++ more)) (λ h. read_tail id ps h.encrypted_data_keys h.rest) (sym g))
-    ∙ subst (λ l. Settles l (read_tail id ps ks.encrypted_data_keys)) (sym i) (h ks.encrypted_data_keys) more
-    ∙ ap (λ l. with_more more l) (and_then_some ks (read_data_keys n bs) (λ h. read_tail id ps h.encrypted_data_keys h.rest) (sym s))
+keys_settle id ps n bs ks rest b e h more =
+    let r = data_keys_read n bs (the_data_keys ks rest) [] b (sym e) in
+    let g : read_data_keys n (bs ++ more) ≡ the_data_keys ks (rest ++ more) ∷ [] = ap (λ j. read_data_keys j (bs ++ more)) (sym r.count) ∙ ap (λ l. read_data_keys (length ks) l) (sym (ap (λ l. l ++ more) r.written) ∙ append_assoc _ rest more) ∙ data_keys_put ks (rest ++ more) r.short_all in
+    sym (and_then_some (the_data_keys ks (rest ++ more)) (read_data_keys n (bs ++ more)) (λ h. read_tail id ps h.encrypted_data_keys h.rest) (sym g))
+    ∙ h more
+    ∙ ap (λ l. with_more more l) (and_then_some (the_data_keys ks rest) (read_data_keys n bs) (λ h. read_tail id ps h.encrypted_data_keys h.rest) e)
 
 number_rest_bytes : (k : ℕ) (bs : List ℕ) (n : ℕ) (r : List ℕ) → all_bytes bs ≡ true → (the_number n r ∷ []) ≡ cut_number k bs → all_bytes r ≡ true
 number_rest_bytes k bs n r b e =
@@ -81,10 +79,10 @@ number_rest_bytes k bs n r b e =
     subst (λ l. all_bytes l ≡ true) (ap (λ y. y.rest) (first_is_first _ (the_number n r) [] [] x.then)) (all_bytes_parts x.one.front x.one.rest (ap all_bytes p.1 ∙ b)).1
 
 pub data_keys_settle : (id : List ℕ) (ps : List Pair) (bs : List ℕ) (n : ℕ) (r : List ℕ) → all_bytes bs ≡ true → (the_number n r ∷ []) ≡ cut_number 2 bs
-    → (ltb 0 n ≡ true → (rest : List ℕ) × (((rest ∷ []) ≡ data_keys_rest n r) × ((ks : List EncryptedDataKey) → Settles rest (read_tail id ps ks)))) → Settles bs (read_data_keys_on id ps)
+    → (ltb 0 n ≡ true → (ks : List EncryptedDataKey) × ((rest : List ℕ) × (((the_data_keys ks rest ∷ []) ≡ read_data_keys n r) × Settles rest (read_tail id ps ks)))) → Settles bs (read_data_keys_on id ps)
 data_keys_settle id ps bs n r b e h =
     settle_number (λ n xs. guard (ltb 0 n) (and_then (read_data_keys n xs) (λ h. read_tail id ps h.encrypted_data_keys h.rest))) 2 bs n r e
-    (settle_guard (ltb 0 n) (λ xs. and_then (read_data_keys n xs) (λ h. read_tail id ps h.encrypted_data_keys h.rest)) r (λ l. let w = h l in keys_settle id ps n r w.0 (number_rest_bytes 2 bs n r b e) w.1.0 w.1.1))
+    (settle_guard (ltb 0 n) (λ xs. and_then (read_data_keys n xs) (λ h. read_tail id ps h.encrypted_data_keys h.rest)) r (λ l. let w = h l in keys_settle id ps n r w.0 w.1.0 (number_rest_bytes 2 bs n r b e) w.1.1.0 w.1.1.1))
 
 -- the context: what is in its field doesn't depend on what follows
 field_grown : (bs more : List ℕ) (x : Cut) (xs : List Cut) → cut_field bs ≡ x ∷ xs → cut_field (bs ++ more) ≡ the_cut x.front (x.rest ++ more) ∷ []
@@ -130,28 +128,21 @@ context_in front rest =
     pick (is_empty front) (record { pairs = []; rest = rest } ∷ [])
     (and_then (cut 2 front) (λ n. and_then (read_pairs (of_bytes n.front) n.rest) (λ ps. guard (is_empty ps.rest && (ltb 0 (length ps.pairs) && rising ps.pairs)) (record { pairs = ps.pairs; rest = rest } ∷ []))))
 
-and_then_first : {A B : Type 0} (xs : List A) (c : A) (more : List A) (f : A → List B) → xs ≡ c ∷ more → f c ≡ and_then xs f
-unfolding and_then
-and_then_first xs c more f e = sym (ap (λ l. and_then l f) e)
-
-context_settles : (read : List Pair → List ℕ → List ReadHeader) (bs rest : List ℕ) → (rest ∷ []) ≡ field_rest bs → ((ps : List Pair) → Settles rest (read ps)) → Settles bs (λ xs. and_then (read_context xs) (λ y. read y.pairs y.rest))
-context_settles read bs rest e h more =
-    let x = and_then_gave (cut_field bs) (λ c. c.rest ∷ []) rest [] (sym e) in
-    let c : Cut = x.one in
-    let i : c.rest ≡ rest = first_is_first c.rest rest [] [] x.then in
-    ap (λ l. and_then l (λ y. read y.pairs y.rest)) (sym (and_then_some (the_cut c.front (c.rest ++ more)) (cut_field (bs ++ more)) (λ c. context_in c.front c.rest) (sym (field_grown bs more c x.more x.here))))
-    ∙ chosen read c.rest (subst (λ l. (ps : List Pair) → Settles l (read ps)) (sym i) h) more (is_empty c.front) _ _ (cut 2 c.front)
-    ∙ ap (λ l. with_more more (and_then l (λ y. read y.pairs y.rest))) (and_then_first (cut_field bs) c x.more (λ c. context_in c.front c.rest) x.here)
+context_settles : (read : List Pair → List ℕ → List ReadHeader) (bs field rest : List ℕ) → (the_cut field rest ∷ []) ≡ cut_field bs → ((ps : List Pair) → Settles rest (read ps)) → Settles bs (λ xs. and_then (read_context xs) (λ y. read y.pairs y.rest))
+context_settles read bs field rest e h more =
+    ap (λ l. and_then l (λ y. read y.pairs y.rest)) (sym (and_then_some (the_cut field (rest ++ more)) (cut_field (bs ++ more)) (λ c. context_in c.front c.rest) (sym (field_grown bs more (the_cut field rest) [] (sym e)))))
+    ∙ chosen read rest h more (is_empty field) _ _ (cut 2 field)
+    ∙ ap (λ l. with_more more (and_then l (λ y. read y.pairs y.rest))) (and_then_some (the_cut field rest) (cut_field bs) (λ c. context_in c.front c.rest) e)
 
 pub header_settles : (bs a r : List ℕ) → (the_cut a r ∷ []) ≡ cut 3 bs
-    → (bytes_eq a (2 ∷ (4 ∷ (120 ∷ []))) ≡ true → (id : List ℕ) × ((r' : List ℕ) × (((the_cut id r' ∷ []) ≡ cut 32 r) × ((rest : List ℕ) × (((rest ∷ []) ≡ field_rest r') × ((ps : List Pair) → Settles rest (read_data_keys_on id ps))))))) → Settles bs read_header
+    → (bytes_eq a (2 ∷ (4 ∷ (120 ∷ []))) ≡ true → (id : List ℕ) × ((r' : List ℕ) × (((the_cut id r' ∷ []) ≡ cut 32 r) × ((field : List ℕ) × ((rest : List ℕ) × (((the_cut field rest ∷ []) ≡ cut_field r') × ((ps : List Pair) → Settles rest (read_data_keys_on id ps)))))))) → Settles bs read_header
 unfolding read_header
 header_settles bs a r e h =
     settle_cut (λ v xs. guard (bytes_eq v (2 ∷ (4 ∷ (120 ∷ [])))) (and_then (cut 32 xs) (λ i. and_then (read_context i.rest) (λ y. read_data_keys_on i.front y.pairs y.rest)))) 3 bs a r e
     (settle_guard (bytes_eq a (2 ∷ (4 ∷ (120 ∷ [])))) (λ xs. and_then (cut 32 xs) (λ i. and_then (read_context i.rest) (λ y. read_data_keys_on i.front y.pairs y.rest))) r (λ t.
     let w = h t in
     settle_cut (λ i xs. and_then (read_context xs) (λ y. read_data_keys_on i y.pairs y.rest)) 32 r w.0 w.1.0 w.1.1.0
-    (context_settles (read_data_keys_on w.0) w.1.0 w.1.1.1.0 w.1.1.1.1.0 w.1.1.1.1.1)))
+    (context_settles (read_data_keys_on w.0) w.1.0 w.1.1.1.0 w.1.1.1.1.0 w.1.1.1.1.1.0 w.1.1.1.1.1.1)))
 
 -- a header that was read, with more behind it
 pub header_whole : (bs : List ℕ) (x : ReadHeader) (len : ℕ) → all_bytes bs ≡ true → (x ∷ []) ≡ read_header bs → len ≡ length bs - length x.rest → HeaderWhole bs len

@@ -3,8 +3,7 @@ use Rattle.std.specs.Prelude.{◌≡◌, ℕ, List, [], ◌∷◌, ◌++◌, nat
 use Rattle.octets.specs.Bytes.{bytes_eq, of_bytes}
 use Rattle.octets.specs.Cut.{cut, and_then, guard}
 use Rattle.format.specs.Request.{Pair, EncryptedDataKey}
-use Rattle.format.specs.Reading.{ReadHeader, cut_field, read_data_keys}
-use Rattle.header_read.specs.Cuts.{cut_data_key}
+use Rattle.format.specs.Reading.{ReadHeader, read_data_keys}
 
 -- none or one, with more bytes behind it
 abbrev pub with_more : List ℕ → List ReadHeader → List ReadHeader
@@ -14,13 +13,6 @@ with_more more (x ∷ xs) = record { header = x.header; tag = x.tag; rest = x.re
 -- with more bytes behind, the same is read, and they are left
 abbrev pub Settles : List ℕ → (List ℕ → List ReadHeader) → Type 0
 Settles bs read = (more : List ℕ) → read (bs ++ more) ≡ with_more more (read bs)
-
--- what comes after a field, and after an encrypted data key
-abbrev pub field_rest : List ℕ → List (List ℕ)
-field_rest bs = and_then (cut_field bs) (λ c. c.rest ∷ [])
-
-abbrev pub data_key_rest : List ℕ → List (List ℕ)
-data_key_rest bs = and_then (cut_data_key bs) (λ k. k.rest ∷ [])
 
 -- the last parts of a header, after what was read before them
 abbrev pub read_end : List ℕ → List Pair → List EncryptedDataKey → ℕ → List ℕ → List ReadHeader

@@ -4,7 +4,7 @@ ghost use Rattle.header_front.specs.Front.{Fronts};
 use crate::settled::settled;
 use header_read::read_header;
 
-#[derive(Clone, Copy, Debug, PartialEq)]
+#[derive(Clone, Copy, Debug, PartialEq, Eq)]
 pub enum HeaderFront {
     // the header and its tag are the first so many bytes, whatever follows
     Whole(usize),
@@ -21,7 +21,7 @@ pub fn header_front(bytes: &[u8]) -> HeaderFront
     if let Some(read) = read_header(bytes) {
         return HeaderFront::Whole(bytes.len() - read.rest.len());
     }
-    if settled(bytes) {
+    if settled(bytes).is_some() {
         return HeaderFront::Wrong;
     }
     HeaderFront::Short

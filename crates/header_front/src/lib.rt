@@ -4,6 +4,5 @@
 
 mod front;
 mod settled;
-mod skip;
 
 pub use front::{HeaderFront, header_front};

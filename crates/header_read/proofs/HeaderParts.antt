@@ -1,84 +1,53 @@
--- A context, the data keys and a whole header are their parts, read one after another.
-use Rattle.std.proofs.Common.{◌≡◌, ℕ, ◌<◌, true, false, ◌&&◌, ltb, List, [], ◌∷◌, length, take, drop, sym, refl, ap, ◌∙◌, subst, ⊎_elim, arith, length-take-le}
-use Rattle.std.proofs.lemmas.Bool.{lt-ltb, le-ltb, and_left, and_right, and_from, cases_lt}
+-- A context and a whole header are their parts, read one after another.
+use Rattle.std.proofs.Common.{◌≡◌, ℕ, Bool, true, false, ◌&&◌, ltb, List, [], ◌∷◌, length, sym, refl, ap, ◌∙◌}
 use Rattle.octets.specs.Bytes.{bytes_eq, of_bytes}
 use Rattle.octets.specs.Cut.{Cut, cut, and_then, guard, CutNumber}
-use Rattle.octets.proofs.Cuts.{cut_some, cut_none, and_then_ext, and_then_assoc, guard-and_then, the_number}
+use Rattle.octets.proofs.Cuts.{the_cut, cut_parts, and_then_some, and_then_ext, and_then_assoc, guard-and_then, the_number}
 use Rattle.format.specs.Request as Rq
 use Rattle.format.specs.Request.{rising}
 use Rattle.format.specs.Reading as Rd
-use Rattle.format.specs.Reading.{ReadPairs, ReadDataKeys, is_empty, read_pairs, read_context, read_data_keys, read_header}
-use Rattle.header_read.specs.Cuts.{listed_pairs, listed_data_keys}
-use Rattle.header_read.specs.Parts.{rising_rest, data_keys_rest, start_part, data_keys_part, frame_length_part}
-use Rattle.header_read.proofs.Steps.{guard_yes, guard_no, guard_gave_none, guard_gave_one, First, first_and_then, first_guard}
-use Rattle.header_read.proofs.Listing.{pairs_listed, data_keys_listed}
+use Rattle.format.specs.Reading.{ReadPairs, ReadDataKeys, is_empty, cut_field, read_pairs, read_context, read_data_keys, read_header}
+use Rattle.format.proofs.Steps.{and_then_gave, guard_gave}
+use Rattle.header_read.specs.Cuts.{CutEntries, listed, skipped, cut_entries, cut_counted, cut_pair, cut_data_key}
+use Rattle.header_read.specs.Parts.{start_part, frame_length_part}
+use Rattle.header_read.proofs.Steps.{pick_no}
+use Rattle.header_read.proofs.Listing.{counted, pairs_made, pairs_read, data_keys_made, data_keys_read}
 
--- a context of so many pairs in these bytes
+-- a context is a count of pairs whose names rise, and nothing behind them
 abbrev kept : List ℕ → ReadPairs → List ReadPairs
 kept after ps = guard (is_empty ps.rest && (ltb 0 (length ps.pairs) && rising ps.pairs)) (record { pairs = ps.pairs; rest = after } ∷ [])
 
-abbrev pub context_of : List ℕ → ℕ → List ℕ → List ReadPairs
-context_of after n bs = and_then (read_pairs n bs) (kept after)
+abbrev pub risen : List ℕ → CutEntries Rq.Pair → List ReadPairs
+risen after ps = guard (is_empty ps.rest && rising ps.entries) (record { pairs = ps.entries; rest = after } ∷ [])
 
-abbrev walked : ReadPairs → List (List ℕ)
-walked ps = guard (rising ps.pairs) (ps.rest ∷ [])
+abbrev so_many : List Rq.Pair → List ℕ → List (CutEntries Rq.Pair)
+so_many ps r = record { entries = ps; rest = r } ∷ []
 
-context_zero_of : (xs : List ReadPairs) (after : List ℕ) → First (λ ps. length ps.pairs ≡ 0) xs → [] ≡ and_then xs (kept after)
+kept_none : (b : Bool) (after : List ℕ) → [] ≡ and_then (guard b []) (risen after)
+unfolding and_then guard
+kept_none true after = refl
+kept_none false after = refl
+
+kept_some : (e b s : Bool) (ps : List Rq.Pair) (r after : List ℕ) → e ≡ is_empty r → s ≡ rising ps → guard (is_empty r && (b && rising ps)) (record { pairs = ps; rest = after } ∷ []) ≡ and_then (guard b (so_many ps r)) (risen after)
+unfolding and_then guard
+kept_some e true s ps r after i j = refl
+kept_some true false s ps r after i j = ap (λ t. guard (t && false) (record { pairs = ps; rest = after } ∷ [])) (sym i)
+kept_some false false s ps r after i j = ap (λ t. guard (t && false) (record { pairs = ps; rest = after } ∷ [])) (sym i)
+
+pairs_kept : (n : ℕ) (bs after : List ℕ) (rs : List (List ℕ)) → rs ≡ skipped cut_pair n bs
+    → and_then (and_then (and_then rs (so_many (listed cut_pair n bs))) pairs_made) (kept after) ≡ and_then (guard (ltb 0 n) (and_then rs (so_many (listed cut_pair n bs)))) (risen after)
 unfolding and_then
-context_zero_of [] after h = refl
-context_zero_of (ps ∷ t) after h = guard_no _ _ (sym (and_right (is_empty ps.rest) _ (and_left (ltb 0 (length ps.pairs)) _ (le-ltb 0 _ (omega arith)))))
+pairs_kept n bs after [] h = kept_none (ltb 0 n) after
+pairs_kept n bs after (r ∷ rs) h =
+    let ps = listed cut_pair n bs in
+    ap (λ k. guard (is_empty r && (ltb 0 k && rising ps)) (record { pairs = ps; rest = after } ∷ [])) (counted cut_pair n bs r rs h)
+    ∙ kept_some (is_empty r) (ltb 0 n) (rising ps) ps r after refl refl
 
-pub context_zero : (n : ℕ) (bs after : List ℕ) → n ≡ 0 → [] ≡ context_of after n bs
-unfolding read_pairs
-context_zero n bs after e = let P : ℕ → Type 0 = λ k. [] ≡ context_of after k bs in subst P (sym e) (context_zero_of (read_pairs 0 bs) after refl)
-
-pub context_falls : (xs : List ReadPairs) (after : List ℕ) → [] ≡ and_then xs walked → [] ≡ and_then xs (kept after)
-unfolding and_then
-context_falls [] after e = refl
-context_falls (ps ∷ t) after e = guard_no _ _ (sym (and_right (is_empty ps.rest) _ (and_right (ltb 0 (length ps.pairs)) _ (guard_gave_none _ _ _ e))))
-
-pub context_goes_on : (xs : List ReadPairs) (end after : List ℕ) → (end ∷ []) ≡ and_then xs walked → false ≡ is_empty end → [] ≡ and_then xs (kept after)
-unfolding and_then
-context_goes_on [] end after e f = refl
-context_goes_on (ps ∷ t) end after e f = let s = guard_gave_one _ _ _ e in guard_no _ _ (sym (and_left (is_empty ps.rest) _ (ap is_empty (sym s.1) ∙ sym f)))
-
-context_some_of : (xs : List ReadPairs) (l : List Rq.Pair) (n : ℕ) (end after : List ℕ) → 0 < n → First (λ ps. (l ≡ ps.pairs) × (length ps.pairs ≡ n)) xs → (end ∷ []) ≡ and_then xs walked → true ≡ is_empty end → (record { pairs = l; rest = after } ∷ []) ≡ and_then xs (kept after)
-unfolding and_then
-context_some_of [] l n end after h f e t = absurd (let z : ◌≡◌ {A = ℕ} 0 1 = cc in omega arith)
-context_some_of (ps ∷ more) l n end after h f e t =
-    let s = guard_gave_one _ _ _ e in
-    let m = f.1 in
-    ap (λ k. record { pairs = k; rest = after } ∷ []) f.0
-    ∙ guard_yes _ _ (sym (and_from _ _ (ap is_empty (sym s.1) ∙ sym t) (and_from _ _ (lt-ltb 0 (length ps.pairs) (omega arith)) s.0)))
-
-pub context_some : (n : ℕ) (bs end after : List ℕ) → 0 < n → (end ∷ []) ≡ rising_rest n bs → true ≡ is_empty end → (record { pairs = listed_pairs n bs; rest = after } ∷ []) ≡ context_of after n bs
-context_some n bs end after h e t = context_some_of (read_pairs n bs) (listed_pairs n bs) n end after h (pairs_listed n bs) e t
-
--- data keys, at least one
-abbrev pub data_keys_of : ℕ → List ℕ → List ReadDataKeys
-data_keys_of n bs = guard (ltb 0 n) (and_then (read_data_keys n bs) (λ ks. ks ∷ []))
-
-data_keys_some_of : (xs : List ReadDataKeys) (l : List Rq.EncryptedDataKey) (r : List ℕ) → First (λ ks. l ≡ ks.encrypted_data_keys) xs → (r ∷ []) ≡ and_then xs (λ ks. ks.rest ∷ []) → (record { encrypted_data_keys = l; rest = r } ∷ []) ≡ and_then xs (λ ks. ks ∷ [])
-unfolding and_then
-data_keys_some_of [] l r f e = absurd (let z : ◌≡◌ {A = ℕ} 0 1 = cc in omega arith)
-data_keys_some_of (ks ∷ t) l r f e =
-    let s : r ≡ ks.rest = cc in
-    ap (λ k. record { encrypted_data_keys = k; rest = r } ∷ []) f ∙ ap (λ k. record { encrypted_data_keys = ks.encrypted_data_keys; rest = k } ∷ []) s
-
-data_keys_none_of : (xs : List ReadDataKeys) → [] ≡ and_then xs (λ ks. ks.rest ∷ []) → [] ≡ and_then xs (λ ks. ks ∷ [])
-unfolding and_then
-data_keys_none_of [] e = refl
-data_keys_none_of (ks ∷ t) e = absurd (let z : ◌≡◌ {A = ℕ} 0 1 = cc in omega arith)
-
-pub data_keys_zero : (n : ℕ) (bs : List ℕ) → n ≡ 0 → [] ≡ data_keys_of n bs
-data_keys_zero n bs e = guard_no _ _ (sym (le-ltb 0 n (omega arith)))
-
-pub data_keys_none : (n : ℕ) (bs : List ℕ) → (n ≡ 0 → ⊥) → [] ≡ data_keys_rest n bs → [] ≡ data_keys_of n bs
-data_keys_none n bs h e = data_keys_none_of (read_data_keys n bs) e ∙ guard_yes _ _ (sym (lt-ltb 0 n (omega arith)))
-
-pub data_keys_some : (n : ℕ) (bs r : List ℕ) → (n ≡ 0 → ⊥) → (r ∷ []) ≡ data_keys_rest n bs → (record { encrypted_data_keys = listed_data_keys n bs; rest = r } ∷ []) ≡ data_keys_of n bs
-data_keys_some n bs r h e =
-    data_keys_some_of (read_data_keys n bs) (listed_data_keys n bs) r (data_keys_listed n bs) e ∙ guard_yes _ _ (sym (lt-ltb 0 n (omega arith)))
+pub context_read : (bs field rest : List ℕ) → (the_cut field rest ∷ []) ≡ cut_field bs → false ≡ is_empty field → and_then (cut_counted cut_pair field) (risen rest) ≡ read_context bs
+context_read bs field rest e f =
+    and_then_assoc (cut 2 field) _ _
+    ∙ and_then_ext (cut 2 field) _ _ (λ n. sym (ap (λ xs. and_then xs (kept rest)) (pairs_read (of_bytes n.front) n.rest) ∙ pairs_kept (of_bytes n.front) n.rest rest _ refl))
+    ∙ pick_no _ _ _ f ∙ and_then_some _ _ _ e
 
 -- the frame length behind the content type
 abbrev pub frame_length_of : ℕ → List ℕ → List CutNumber
@@ -88,11 +57,13 @@ frame_length_of n r = guard (ltb 0 n) (the_number n r ∷ [])
 start_step : {B : Type 0} (bs : List ℕ) (K : Cut → List B) → and_then (start_part bs) K ≡ and_then (cut 3 bs) (λ v. guard (bytes_eq v.front (2 ∷ (4 ∷ (120 ∷ [])))) (and_then (cut 32 v.rest) K))
 start_step bs K = and_then_assoc (cut 3 bs) _ K ∙ and_then_ext (cut 3 bs) _ _ (λ v. sym (guard-and_then _ (cut 32 v.rest) K))
 
-data_keys_step : {B : Type 0} (bs : List ℕ) (K : ReadDataKeys → List B) → and_then (data_keys_part bs) K ≡ and_then (cut 2 bs) (λ n. guard (ltb 0 (of_bytes n.front)) (and_then (read_data_keys (of_bytes n.front) n.rest) K))
+data_keys_step : {B : Type 0} (bs : List ℕ) (K : ReadDataKeys → List B)
+    → and_then (cut_counted cut_data_key bs) (λ ks. K (record { encrypted_data_keys = ks.entries; rest = ks.rest })) ≡ and_then (cut 2 bs) (λ n. guard (ltb 0 (of_bytes n.front)) (and_then (read_data_keys (of_bytes n.front) n.rest) K))
 unfolding and_then
 data_keys_step bs K =
-    and_then_assoc (cut 2 bs) _ K
-    ∙ and_then_ext (cut 2 bs) _ _ (λ n. sym (guard-and_then _ _ K) ∙ ap (λ xs. guard (ltb 0 (of_bytes n.front)) xs) (and_then_assoc (read_data_keys (of_bytes n.front) n.rest) _ K))
+    and_then_assoc (cut 2 bs) _ _
+    ∙ and_then_ext (cut 2 bs) _ _ (λ n. sym (guard-and_then _ _ _)
+    ∙ ap (λ xs. guard (ltb 0 (of_bytes n.front)) xs) (sym (ap (λ xs. and_then xs K) (data_keys_read (of_bytes n.front) n.rest) ∙ and_then_assoc (cut_entries cut_data_key (of_bytes n.front) n.rest) data_keys_made K)))
 
 frame_length_step : {B : Type 0} (bs : List ℕ) (K : CutNumber → List B) → and_then (frame_length_part bs) K ≡ and_then (cut 1 bs) (λ t. guard (bytes_eq t.front (2 ∷ [])) (and_then (cut 4 t.rest) (λ f. guard (ltb 0 (of_bytes f.front)) (K (the_number (of_bytes f.front) f.rest)))))
 unfolding and_then
@@ -105,27 +76,21 @@ the_header id ps ks n c g r = record { header = record { id = id; context = ps; 
 
 abbrev pub by_parts : List ℕ → List Rd.ReadHeader
 by_parts bs =
-    and_then (start_part bs) (λ i. and_then (read_context i.rest) (λ c. and_then (data_keys_part c.rest) (λ h. and_then (frame_length_part h.rest) (λ f.
-    and_then (cut 32 f.rest) (λ k. and_then (cut 16 k.rest) (λ g. the_header i.front c.pairs h.encrypted_data_keys f.value k.front g.front g.rest ∷ []))))))
+    and_then (start_part bs) (λ i. and_then (read_context i.rest) (λ c. and_then (cut_counted cut_data_key c.rest) (λ h. and_then (frame_length_part h.rest) (λ f.
+    and_then (cut 32 f.rest) (λ k. and_then (cut 16 k.rest) (λ g. the_header i.front c.pairs h.entries f.value k.front g.front g.rest ∷ []))))))
 
-pub header_by_parts : (bs : List ℕ) → by_parts bs ≡ read_header bs
+pub header_by_parts : (bs : List ℕ) → read_header bs ≡ by_parts bs
 unfolding read_header
 header_by_parts bs =
-    start_step bs _ ∙ and_then_ext (cut 3 bs) _ _ (λ v. ap (λ xs. guard (bytes_eq v.front (2 ∷ (4 ∷ (120 ∷ [])))) xs) (
+    sym (start_step bs _ ∙ and_then_ext (cut 3 bs) _ _ (λ v. ap (λ xs. guard (bytes_eq v.front (2 ∷ (4 ∷ (120 ∷ [])))) xs) (
     and_then_ext (cut 32 v.rest) _ _ (λ i. and_then_ext (read_context i.rest) _ _ (λ c.
-    data_keys_step c.rest _ ∙ and_then_ext (cut 2 c.rest) _ _ (λ n. ap (λ xs. guard (ltb 0 (of_bytes n.front)) xs) (
-    and_then_ext (read_data_keys (of_bytes n.front) n.rest) _ _ (λ h. frame_length_step h.rest _)))))))
+    data_keys_step c.rest (λ h. and_then (frame_length_part h.rest) (λ f. and_then (cut 32 f.rest) (λ k. and_then (cut 16 k.rest) (λ g. the_header i.front c.pairs h.encrypted_data_keys f.value k.front g.front g.rest ∷ []))))
+    ∙ and_then_ext (cut 2 c.rest) _ _ (λ n. ap (λ xs. guard (ltb 0 (of_bytes n.front)) xs) (
+    and_then_ext (read_data_keys (of_bytes n.front) n.rest) _ _ (λ h. frame_length_step h.rest _))))))))
 
--- how long what is cut is
-cut_long : (n : ℕ) (bs : List ℕ) (xs : List Cut) → cut n bs ≡ xs → First (λ c. length c.front ≡ n) xs
-cut_long n bs [] e = tt
-cut_long n bs (c ∷ cs) e = ⊎_elim (λ h. absurd (let z : ◌≡◌ {A = List Cut} [] (c ∷ cs) = cut_none n bs h ∙ e in let y : ◌≡◌ {A = ℕ} 0 1 = cc in omega arith)) (λ h. subst (First (λ d. length d.front ≡ n)) (cut_some n bs (take n bs) (drop n bs) h refl refl ∙ e) (length-take-le n bs h)) (cases_lt (length bs) n)
-
+-- how long the id is
 pub id_long : (bs : List ℕ) (c : Cut) → (c ∷ []) ≡ start_part bs → length c.front ≡ 32
 id_long bs c e =
-    subst (First (λ d. length d.front ≡ 32)) (sym e)
-    (first_and_then (λ v. Unit {0}) (λ d. length d.front ≡ 32) (cut 3 bs) (λ v. guard (bytes_eq v.front (2 ∷ (4 ∷ (120 ∷ [])))) (cut 32 v.rest)) (any (cut 3 bs)) (λ v u. first_guard (λ d. length d.front ≡ 32) _ (cut 32 v.rest) (cut_long 32 v.rest (cut 32 v.rest) refl)))
-  where
-    any : (xs : List Cut) → First (λ v. Unit {0}) xs
-    any [] = tt
-    any (x ∷ xs) = tt
+    let x = and_then_gave (cut 3 bs) (λ v. guard (bytes_eq v.front (2 ∷ (4 ∷ (120 ∷ [])))) (cut 32 v.rest)) c [] (sym e) in
+    let g = guard_gave (bytes_eq x.one.front (2 ∷ (4 ∷ (120 ∷ [])))) (cut 32 x.one.rest) c [] x.then in
+    (cut_parts 32 x.one.rest c.front c.rest (sym g.1)).long

@@ -1,3 +1,3 @@
 pub mod Cuts
-pub mod Parts
 pub mod Cursor
+pub mod Parts

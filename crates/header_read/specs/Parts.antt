@@ -3,24 +3,25 @@
 use Rattle.std.specs.Prelude.{◌≡◌, ℕ, List, [], ◌∷◌, length, Some, None, Option, nat_lt}
 use Rattle.std.specs.Borrow.{Bor}
 use Rattle.octets.specs.Bytes.{bytes_eq, of_bytes}
-use Rattle.octets.specs.Cut.{Cut, cut, and_then, guard, CutNumber}
+use Rattle.octets.specs.Cut.{Cut, cut, and_then, guard, CutNumber, word_cuts}
 use Rattle.format.specs.Request as Rq
-use Rattle.format.specs.Request.{rising}
 use Rattle.format.specs.Header as Hd
 use Rattle.format.specs.Reading as Rd
-use Rattle.format.specs.Reading.{ReadPairs, ReadDataKeys, read_pairs, read_data_keys}
-use Rattle.header_read.specs.Cuts.{listed_pairs, listed_data_keys}
-use Rattle.header_read.specs.declared.types.Context.{Context}
-use Rattle.header_read.specs.declared.types.EncryptedDataKeys.{EncryptedDataKeys}
+use Rattle.format.specs.Reading.{ReadPairs}
+use Rattle.header_read.specs.Cuts.{cut_pair, cut_data_key}
+use Rattle.header_read.specs.Cursor.{entries_in}
+use Rattle.header_read.specs.declared.entries.Entries.{Entries}
+use Rattle.header_read.specs.declared.fields.PairKind.{PairKind}
+use Rattle.header_read.specs.declared.fields.DataKeyKind.{DataKeyKind}
 use Rattle.header_read.specs.declared.types.Header.{Header}
 use Rattle.header_read.specs.declared.types.ReadHeader.{ReadHeader}
 
 -- the pairs of a context, the data keys, and the header that was read
-abbrev pub pairs_in : Context → List Rq.Pair
-pairs_in c = listed_pairs c.count c.bytes.now
+abbrev pub pairs_in : Entries PairKind → List Rq.Pair
+pairs_in c = entries_in cut_pair c
 
-abbrev pub data_keys_in : EncryptedDataKeys → List Rq.EncryptedDataKey
-data_keys_in k = listed_data_keys k.count k.bytes.now
+abbrev pub data_keys_in : Entries DataKeyKind → List Rq.EncryptedDataKey
+data_keys_in k = entries_in cut_data_key k
 
 abbrev pub header_in : Header → Hd.Header
 header_in h =
@@ -30,17 +31,12 @@ abbrev pub read_header_in : ReadHeader → Rd.ReadHeader
 read_header_in x = record { header = header_in x.header; tag = x.tag.now; rest = x.rest.now }
 
 -- results, none or one
-abbrev pub context_reads : Option (Context × Bor (List ℕ)) → List ReadPairs
+abbrev pub context_reads : Option (Entries PairKind × Bor (List ℕ)) → List ReadPairs
 context_reads None = []
 context_reads (Some c) = record { pairs = pairs_in c.0; rest = c.1.now } ∷ []
 
-abbrev pub data_keys_reads : Option (EncryptedDataKeys × Bor (List ℕ)) → List ReadDataKeys
-data_keys_reads None = []
-data_keys_reads (Some k) = record { encrypted_data_keys = data_keys_in k.0; rest = k.1.now } ∷ []
-
 abbrev pub frame_length_reads : Option (ℕ × Bor (List ℕ)) → List CutNumber
-frame_length_reads None = []
-frame_length_reads (Some n) = record { value = n.0; rest = n.1.now } ∷ []
+frame_length_reads r = word_cuts (λ n. n) r
 
 abbrev pub header_reads : Option ReadHeader → List Rd.ReadHeader
 header_reads None = []
@@ -56,19 +52,9 @@ abbrev pub HasFixedLengths : Option ReadHeader → Type 0
 HasFixedLengths None = Unit {0}
 HasFixedLengths (Some x) = FixedLengths x
 
--- what comes after n pairs whose names rise, and after n data keys
-abbrev pub rising_rest : ℕ → List ℕ → List (List ℕ)
-rising_rest n bs = and_then (read_pairs n bs) (λ ps. guard (rising ps.pairs) (ps.rest ∷ []))
-
-abbrev pub data_keys_rest : ℕ → List ℕ → List (List ℕ)
-data_keys_rest n bs = and_then (read_data_keys n bs) (λ ks. ks.rest ∷ [])
-
--- the parts: start and id, data keys, content type and frame length
+-- the parts: start and id, content type and frame length
 abbrev pub start_part : List ℕ → List Cut
 start_part bs = and_then (cut 3 bs) (λ v. guard (bytes_eq v.front (2 ∷ (4 ∷ (120 ∷ [])))) (cut 32 v.rest))
-
-abbrev pub data_keys_part : List ℕ → List ReadDataKeys
-data_keys_part bs = and_then (cut 2 bs) (λ n. guard (nat_lt 0 (of_bytes n.front)) (and_then (read_data_keys (of_bytes n.front) n.rest) (λ ks. ks ∷ [])))
 
 abbrev pub frame_length_part : List ℕ → List CutNumber
 frame_length_part bs =

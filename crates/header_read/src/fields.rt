@@ -1,52 +1,69 @@
 // Fields, pairs and encrypted data keys, cut off the front of lent bytes.
 ghost use Rattle.std.specs.Prelude.{◌≡◌};
 ghost use Rattle.octets.specs.Cut.{cuts};
+ghost use Rattle.format.specs.Request as Rq;
 ghost use Rattle.format.specs.Reading.{cut_field};
-ghost use Rattle.header_read.specs.Cuts.{pair_cuts, cut_pair, data_key_cuts, cut_data_key};
+ghost use Rattle.header.specs.Models.{pair, data_key};
+ghost use Rattle.header_read.specs.Cuts.{cut_pair, cut_data_key};
 
+use crate::entries::Kind;
 use header::{EncryptedDataKey, Pair};
-use octets::{cut, cut_u16};
+use octets::{cut, cut_number};
 
-// two bytes of length and so many bytes, and what comes after
+// Two bytes of length and so many bytes, and what comes after.
+#[tactic(auto, using(octets::proofs::Cuts::number_some, octets::proofs::Cuts::number_none), unfolding(octets::specs::Cut::and_then))]
 pub fn cut_field(bytes: &[u8]) -> Option<(&[u8], &[u8])>
-    ensures { cuts result ≡ cut_field bytes.now }
+    ensures value { cuts result ≡ cut_field bytes.now }
 {
-    let Some((len, rest)) = cut_u16(bytes) else {
-        return None;
-    };
+    let (len, rest) = cut_number::<u16, _>(bytes)?;
     cut(rest, len as usize)
 }
 
-pub fn cut_pair(bytes: &[u8]) -> Option<(Pair<'_, '_>, &[u8])>
-    ensures { pair_cuts result ≡ cut_pair bytes.now }
-{
-    let Some((name, more)) = cut_field(bytes) else {
-        return None;
-    };
-    let Some((value, rest)) = cut_field(more) else {
-        return None;
-    };
-    Some((Pair { name, value }, rest))
+// a pair of the encryption context
+#[derive(Clone, Copy)]
+pub struct PairKind;
+
+impl<'m> Kind<'m> for PairKind {
+    type Entry = Pair<'m, 'm>;
+
+    ghost Value = { Rq.Pair };
+
+    ghost says = { pair };
+
+    ghost cut = { cut_pair };
+
+    #[tactic(auto, unfolding(octets::specs::Cut::and_then))]
+    fn cut_off(bytes: &'m [u8]) -> Option<(Pair<'m, 'm>, &'m [u8])> {
+        let (name, more) = cut_field(bytes)?;
+        let (value, rest) = cut_field(more)?;
+        let pair = Pair { name, value };
+        Some((pair, rest))
+    }
 }
 
-pub fn cut_data_key(bytes: &[u8]) -> Option<(EncryptedDataKey<'_, '_, '_>, &[u8])>
-    ensures { data_key_cuts result ≡ cut_data_key bytes.now }
-{
-    let Some((provider_id, more)) = cut_field(bytes) else {
-        return None;
-    };
-    let Some((provider_info, more)) = cut_field(more) else {
-        return None;
-    };
-    let Some((ciphertext, rest)) = cut_field(more) else {
-        return None;
-    };
-    Some((
-        EncryptedDataKey {
+// an encrypted data key
+#[derive(Clone, Copy)]
+pub struct DataKeyKind;
+
+impl<'m> Kind<'m> for DataKeyKind {
+    type Entry = EncryptedDataKey<'m, 'm, 'm>;
+
+    ghost Value = { Rq.EncryptedDataKey };
+
+    ghost says = { data_key };
+
+    ghost cut = { cut_data_key };
+
+    #[tactic(auto, unfolding(octets::specs::Cut::and_then))]
+    fn cut_off(bytes: &'m [u8]) -> Option<(EncryptedDataKey<'m, 'm, 'm>, &'m [u8])> {
+        let (provider_id, more) = cut_field(bytes)?;
+        let (provider_info, more) = cut_field(more)?;
+        let (ciphertext, rest) = cut_field(more)?;
+        let key = EncryptedDataKey {
             provider_id,
             provider_info,
             ciphertext,
-        },
-        rest,
-    ))
+        };
+        Some((key, rest))
+    }
 }

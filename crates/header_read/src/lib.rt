@@ -3,13 +3,14 @@
 // keys come one by one in their order; nothing is copied.
 #![tactic(auto)]
 
-mod cursor;
+mod entries;
 mod fields;
 mod read;
 #[cfg(test)]
 mod tests;
 mod types;
 
-pub use cursor::{DataKeys, Pairs};
+pub use entries::{Entries, EntriesLeft, Kind};
+pub use fields::{DataKeyKind, PairKind, cut_field};
 pub use read::read_header;
-pub use types::{Context, EncryptedDataKeys, Header, ReadHeader};
+pub use types::{Context, DataKeys, EncryptedDataKeys, Header, Pairs, ReadHeader};

@@ -1,29 +1,20 @@
 -- A key written into a block of zeros, and each byte of a block joined with a mask.
-use Rattle.std.proofs.Common.{◌≡◌, ℕ, ◌+◌, ◌-◌, ◌^◌, ◌<◌, ◌≤◌, ltb, List, [], ◌∷◌, ◌++◌, sym, refl, ap, ◌∙◌, ap₂}
-use lib.Bits.{bit_xor}
+use Rattle.std.proofs.Common.{◌≡◌, ℕ, ◌-◌, ◌<◌, ◌≤◌, ltb, List, [], ◌∷◌, ◌++◌, map, sym, refl, ap, ◌∙◌, ap₂}
 use lib.ListN as L
 use borrow.Rule.Slice.PartMut.{put_mid}
-use Rattle.std.proofs.lemmas.List.{drop-replicate, take_more_set, take_more}
+use Rattle.std.proofs.lemmas.List.{drop-replicate}
 use Rattle.std.proofs.lemmas.Bool.{lt-ltb, le-ltb}
 use Rattle.octets.specs.Bits.{bits_xor}
 use Rattle.octets.specs.Bytes.{repeat}
-use Rattle.octets.proofs.Bits.{pick_true, pick_false, bits_xor_is}
+use Rattle.octets.proofs.Bits.{pick_true, pick_false}
 use Rattle.octets.proofs.Lists.{repeat_is}
 use Rattle.sha512.specs.Sha512.{sha512}
 use Rattle.hkdf.specs.Hmac.{each_xor, block_key}
 
-each_xor_push : (k : ℕ) (xs : List ℕ) (x : ℕ) → each_xor k (xs ++ (x ∷ [])) ≡ each_xor k xs ++ (bits_xor 8 k x ∷ [])
+pub each_xor_is : (k : ℕ) (bs : List ℕ) → each_xor k bs ≡ map (bits_xor 8 k) bs
 unfolding each_xor
-each_xor_push k [] x = refl
-each_xor_push k (y ∷ ys) x = ap (λ (zs : List ℕ). bits_xor 8 k y ∷ zs) (each_xor_push k ys x)
-
-pub each_xor_more : (k i : ℕ) (out block : List ℕ) → i < L.length out → i < L.length block → k < 2 ^ 8 → L.get_or block i 0 < 2 ^ 8
-    → L.take i out ≡ each_xor k (L.take i block)
-    → L.take (i + 1) (L.set out i (bit_xor k (L.get_or block i 0))) ≡ each_xor k (L.take (i + 1) block)
-each_xor_more k i out block ho hb hk hx e =
-    take_more_set out i (bit_xor k (L.get_or block i 0)) ho
-    ∙ ap₂ (λ (xs : List ℕ) (x : ℕ). xs ++ (x ∷ [])) e (sym (bits_xor_is 8 k (L.get_or block i 0) hk hx))
-    ∙ sym (ap (each_xor k) (take_more block i 0 hb) ∙ each_xor_push k (L.take i block) (L.get_or block i 0))
+each_xor_is k [] = refl
+each_xor_is k (b ∷ bs) = ap (λ xs. bits_xor 8 k b ∷ xs) (each_xor_is k bs)
 
 filled_up : (h ys : List ℕ) (v : ℕ) → ys ≡ h → v ≡ L.length h → put_mid 0 v (L.replicate 128 0) ys ≡ h ++ repeat (128 - L.length h) 0
 filled_up h ys v ey ev =

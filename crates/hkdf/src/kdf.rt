@@ -1,5 +1,5 @@
 // HKDF with one block of output: up to 64 bytes.
-ghost use Rattle.std.specs.Prelude.{◌≡◌, ◌<◌, ◌≤◌, [], ◌∷◌, ◌++◌, length, MatchResult};
+ghost use Rattle.std.specs.Prelude.{◌≡◌, ℕ, ◌<◌, ◌≤◌, List, length, MatchResult};
 ghost use Rattle.hkdf.specs.Hmac.{hmac};
 ghost use Rattle.hkdf.specs.Hkdf.{hkdf};
 
@@ -8,17 +8,22 @@ use crate::mac::{Mac, hmac};
 const MAX_OUTPUT: usize = 64;
 
 // more output was asked for than one block holds
-#[derive(Clone, Copy, Debug)]
+#[derive(Clone, Copy, PartialEq, Eq, Debug)]
 pub struct TooLong;
 
-// the first and only block of output of an extracted key
-pub(crate) fn expand(extracted: &[u8], info: &[u8]) -> [u8; 64]
-    ensures { result ≡ hmac extracted.now (info.now ++ (1 ∷ [])) }
+// fills `out` from the first and only block of output of an extracted key
+#[tactic(auto, using(octets::proofs::Lists::take_is), unfolding(crate::specs::Hkdf::hkdf))]
+pub(crate) fn expand(extracted: &[u8; 64], info: &[u8], out: &mut [u8])
+    requires { length out.old ≤ MAX_OUTPUT }
+    ensures { (salt key : List ℕ) → extracted.now ≡ hmac salt key → out.new ≡ hkdf salt key info.now (length out.old) }
 {
     let mut mac = Mac::new(extracted);
     mac.update(info);
     mac.update(&[1]);
-    mac.finish()
+    let mut block = mac.finish();
+    out.copy_from_slice(&block[..out.len()]);
+    // no promise: the compiler may have made copies, or drop these writes
+    block.fill(0);
 }
 
 // fills `out`, or leaves it as it was where it is longer than 64 bytes
@@ -31,10 +36,7 @@ pub fn derive(salt: &[u8], key: &[u8], info: &[u8], out: &mut [u8]) -> Result<()
         return Err(TooLong);
     }
     let mut extracted = hmac(salt, key);
-    let mut block = expand(&extracted, info);
-    out.copy_from_slice(&block[0..out.len()]);
-    // no promise: the compiler may have made copies, or drop these writes
+    expand(&extracted, info, out);
     extracted.fill(0);
-    block.fill(0);
     Ok(())
 }

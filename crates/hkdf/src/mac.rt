@@ -10,15 +10,15 @@ const INNER_MASK: u8 = 0x36;
 const OUTER_MASK: u8 = 0x5c;
 
 // a key as one block: hashed first where it is longer than a block
+#[tactic(auto, using(crate::proofs::BlockKey::long_key, crate::proofs::BlockKey::short_key))]
 fn block_key(key: &[u8]) -> [u8; 128]
     ensures { result ≡ block_key key.now }
 {
-    let mut block = [0u8; 128];
+    let mut block = [0; 128];
     if key.len() > 128 {
-        let short = hash(key);
-        block[0..64].copy_from_slice(&short);
+        block[..64].copy_from_slice(&hash(key));
     } else {
-        block[0..key.len()].copy_from_slice(key);
+        block[..key.len()].copy_from_slice(key);
     }
     block
 }
@@ -27,6 +27,7 @@ fn each_xor(mask: u8, block: [u8; 128]) -> [u8; 128]
     ensures { result ≡ each_xor mask block }
 {
     let mut out = block;
+    // by index: a key may be secret
     for i in 0..128 {
         out[i] = mask ^ block[i];
     }
@@ -63,14 +64,14 @@ impl Mac {
         ensures { (k m : List ℕ) → Keyed self k m → result ≡ hmac k m }
     {
         let Mac { inner, outer } = self;
-        let inner_hash = inner.finish();
         let mut hasher = Hasher::new();
         hasher.update(&outer);
-        hasher.update(&inner_hash);
+        hasher.update(&inner.finish());
         hasher.finish()
     }
 }
 
+// three calls, as sha512's hash of its own state: a trait for both would be longer than they are
 pub fn hmac(key: &[u8], bytes: &[u8]) -> [u8; 64]
     ensures value { result ≡ hmac key.now bytes.now }
 {

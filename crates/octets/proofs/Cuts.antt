@@ -2,9 +2,12 @@
 use Rattle.std.proofs.Common.{◌≡◌, ℕ, ◌<◌, ◌≤◌, Bool, true, false, List, [], ◌∷◌, ◌++◌, length, sym, refl, ap, ◌∙◌, ⊎_elim, arith, length-append, length-take-le, take_at, drop_at}
 use lib.ListN as L
 use Rattle.std.proofs.lemmas.Bool.{le-leb, lt-leb, cases_lt}
+use Rattle.std.specs.Prelude.{MatchOption, Some, None, Option}
+use Rattle.std.specs.Borrow.{Bor}
+use Rattle.std.specs.List.{IsSplitAt}
 use Rattle.octets.specs.Bits.{pick}
 use Rattle.octets.specs.Bytes.{of_bytes}
-use Rattle.octets.specs.Cut.{Cut, cut, and_then, guard, CutNumber, cut_number}
+use Rattle.octets.specs.Cut.{Cut, cut, cuts, and_then, guard, CutNumber, cut_number}
 use Rattle.octets.proofs.Lists.{take_is, drop_is}
 
 abbrev pub the_cut : List ℕ → List ℕ → Cut
@@ -21,6 +24,11 @@ cut_some n bs f r h p q = simp (le-leb n (length bs) h, take_is, drop_is) (ap (�
 pub cut_none : (n : ℕ) (bs : List ℕ) → length bs < n → [] ≡ cut n bs
 unfolding pick
 cut_none n bs h = simp (lt-leb n (length bs) h)
+
+-- the library's cut at a place
+pub cut_checked : (n : ℕ) (bs : List ℕ) (r : Option (Bor (List ℕ) × Bor (List ℕ))) → MatchOption r (length bs < n) (λ p. IsSplitAt bs n p.0.now p.1.now) → cuts r ≡ cut n bs
+cut_checked n bs None h = cut_none n bs h
+cut_checked n bs (Some p) h = cut_some n bs p.0.now p.1.now h.0 h.1 h.2
 
 -- what stands in front comes off
 pub cut_front : (n : ℕ) (f r : List ℕ) → length f ≡ n → cut n (f ++ r) ≡ the_cut f r ∷ []

@@ -1,5 +1,7 @@
--- The order of byte strings: of two that differ one comes before the other.
-use Rattle.std.proofs.Common.{◌≡◌, ℕ, ◌≤◌, Bool, true, false, ◌&&◌, eqb, ltb, List, [], ◌∷◌, sym, refl, ⊎_elim, arith}
+-- The order of byte strings: of two that differ one comes before the other; and their equality as the library has it.
+use Rattle.std.proofs.Common.{◌≡◌, ℕ, ◌≤◌, Bool, true, false, ◌&&◌, eqb, ltb, List, [], ◌∷◌, sym, refl, ap, ⊎_elim, arith}
+use lib.Pointwise.{pointwise}
+use Rattle.std.specs.Prelude.{nat_eq}
 use Rattle.std.proofs.lemmas.Bool.{and_from, ltb-false, lt-ltb, eq-eqb, or_parts, or_left, or_right, cases_eq}
 use Rattle.octets.specs.Bytes.{bytes_eq, bytes_lt}
 
@@ -22,3 +24,11 @@ bytes_lt_total (x ∷ xs) (y ∷ ys) p q =
     rest : (s t : Bool) → s ≡ true → (s && t) ≡ false → t ≡ false
     rest true t e f = f
     rest false t e f = absurd (let z : ◌≡◌ {A = ℕ} 0 1 = cc in omega arith)
+
+-- the library's comparison of byte strings
+pub pointwise_is : (xs ys : List ℕ) → pointwise nat_eq xs ys ≡ bytes_eq xs ys
+unfolding bytes_eq
+pointwise_is [] [] = refl
+pointwise_is [] (y ∷ ys) = refl
+pointwise_is (x ∷ xs) [] = refl
+pointwise_is (x ∷ xs) (y ∷ ys) = ap (λ b. eqb x y && b) (pointwise_is xs ys)

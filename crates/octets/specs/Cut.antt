@@ -33,6 +33,6 @@ abbrev pub cuts : Option (Bor (List ℕ) × Bor (List ℕ)) → List Cut
 cuts None = []
 cuts (Some c) = record { front = c.0.now; rest = c.1.now } ∷ []
 
-abbrev pub number_cuts : Option (ℕ × Bor (List ℕ)) → List CutNumber
-number_cuts None = []
-number_cuts (Some c) = record { value = c.0; rest = c.1.now } ∷ []
+abbrev pub word_cuts : {A : Type 0} → (A → ℕ) → Option (A × Bor (List ℕ)) → List CutNumber
+word_cuts value None = []
+word_cuts value (Some c) = record { value = value c.0; rest = c.1.now } ∷ []

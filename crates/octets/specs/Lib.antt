@@ -2,3 +2,4 @@ pub mod Bits
 pub mod Bytes
 pub mod Cut
 pub mod Splice
+pub mod Writing

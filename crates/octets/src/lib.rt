@@ -5,12 +5,16 @@
 #![tactic(auto)]
 
 mod compare;
+mod number;
 mod read;
 mod write;
+mod writer;
 
 pub use compare::{equal, equal_fixed, less};
-pub use read::{cut, cut_u16, cut_u32, cut_u64};
-pub use write::{clear, put, put_u16, put_u32, put_u64};
+pub use number::Word;
+pub use read::{cut, cut_number};
+pub use write::{clear, put, put_number};
+pub use writer::Writer;
 
 #[cfg(test)]
 mod tests;

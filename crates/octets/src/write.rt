@@ -3,8 +3,10 @@ ghost use Rattle.std.specs.Prelude.{◌≡◌, length};
 ghost use Rattle.octets.specs.Bytes.{repeat, to_bytes};
 ghost use Rattle.octets.specs.Splice.{Put};
 
+use crate::number::Word;
+
 // Writes bytes from a place on, and answers where the next go; None where they do not fit, and then
-// nothing is written.
+// nothing is written. For one place alone: a `Writer` keeps the place for bytes one after another.
 pub fn put(out: &mut [u8], at: usize, bytes: &[u8]) -> Option<usize>
     ensures value { Put out.old at bytes.now result out.new }
 {
@@ -17,25 +19,11 @@ pub fn put(out: &mut [u8], at: usize, bytes: &[u8]) -> Option<usize>
 }
 
 // The same for a number in its bytes, the high one first.
-pub fn put_u16(out: &mut [u8], at: usize, n: u16) -> Option<usize>
-    ensures value { Put out.old at (to_bytes 2 n) result out.new }
+pub fn put_number<T: Word<N>, const N: usize>(out: &mut [u8], at: usize, n: T) -> Option<usize>
+    ensures value { Put out.old at (to_bytes N (T.value n)) result out.new }
 {
-    let two = n.to_be_bytes();
-    put(out, at, &two)
-}
-
-pub fn put_u32(out: &mut [u8], at: usize, n: u32) -> Option<usize>
-    ensures value { Put out.old at (to_bytes 4 n) result out.new }
-{
-    let four = n.to_be_bytes();
-    put(out, at, &four)
-}
-
-pub fn put_u64(out: &mut [u8], at: usize, n: u64) -> Option<usize>
-    ensures value { Put out.old at (to_bytes 8 n) result out.new }
-{
-    let eight = n.to_be_bytes();
-    put(out, at, &eight)
+    let bytes = n.to_bytes();
+    put(out, at, &bytes)
 }
 
 // Sets every byte to 0.

@@ -1,4 +1,5 @@
-// Bytes of a message as a line shows them: printable ones as they are, the others and what would be ambiguous as \xNN.
+// Bytes of a message as a line shows them: printable ones as they are, the others and what would be ambiguous as \xNN. The library's
+// `escape_ascii` writes tabs, line ends and quotes in ways of their own.
 use header::Pair;
 use std::fmt;
 

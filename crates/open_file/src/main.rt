@@ -8,24 +8,29 @@ mod open;
 mod refusal;
 mod show;
 mod source;
-mod target;
 
+use cli::line::CommandLine;
 use cli::options::{Kind, Program};
-use cli::scan::{Given, scan};
 use commands::context::context_of;
 use commands::given::is_given;
-use commands::open::{OpenCommand, header_command, open_command};
-use commands::problem::{Action, Problem};
-use files::read::{file_len, wipe};
-use open::open_file;
-use programs::{check_output, read_key, say};
+use commands::open::{header_command, open_command};
+use commands::problem::Problem;
+use open::Asked;
+use programs::{Tool, check_output, input_len, run_tool, with_key};
 use show::print_header;
-use std::env;
 use std::process::ExitCode;
 
-const VERSION: &str = "strongbox-open 1.0.0";
+struct StrongboxOpen;
 
-const HELP: &str = "Usage: strongbox-open --key FILE [--context NAME=VALUE..] [--force] INPUT OUTPUT
+impl Tool for StrongboxOpen {
+    const PROGRAM: Program = Program::Open;
+
+    const NAME: &'static str = "strongbox-open";
+
+    const VERSION: &'static str = "strongbox-open 1.0.0";
+
+    const HELP: &'static str =
+        "Usage: strongbox-open --key FILE [--context NAME=VALUE..] [--force] INPUT OUTPUT
        strongbox-open --header INPUT
 Opens the message INPUT into the file OUTPUT, and prints its encryption context.
 
@@ -36,64 +41,21 @@ Opens the message INPUT into the file OUTPUT, and prints its encryption context.
   --help                print this
   --version             print the version";
 
-fn complain(rt: &HostRuntime, problem: Problem) -> ExitCode {
-    let _ = eprintln!(rt; "strongbox-open: {problem}");
-    ExitCode::FAILURE
+    fn run<'a>(rt: &HostRuntime, line: &CommandLine<'_, 'a>) -> Result<(), Problem<'a>> {
+        if is_given(line, Kind::Header)? {
+            let input = header_command(line)?;
+            return print_header(rt, input);
+        }
+        let command = open_command(line)?;
+        let wanted = context_of(rt.alloc(), line)?;
+        check_output(rt, command.output, command.force)?;
+        // A message is gone through twice, which only a regular file allows.
+        input_len(rt, command.input)?;
+        let asked = Asked { command, wanted };
+        with_key(rt, command.key, |key| asked.open(rt, key))?
+    }
 }
 
 fn main(rt: HostRuntime) -> ExitCode {
-    let args = match env::args(&rt) {
-        Ok(args) => args,
-        Err(error) => return complain(&rt, Problem::File(Action::Read, "the command line", error)),
-    };
-    let words: Vec<String> = match args.skip(1).collect(rt.alloc()) {
-        Ok(words) => words,
-        Err(_) => return complain(&rt, Problem::Memory),
-    };
-    match run(&rt, words.as_slice()) {
-        Ok(()) => ExitCode::SUCCESS,
-        Err(problem) => complain(&rt, problem),
-    }
-}
-
-fn run<'a>(rt: &HostRuntime, words: &'a [String]) -> Result<(), Problem<'a>> {
-    let given = scan(rt.alloc(), Program::Open, words)?;
-    if is_given(rt.alloc(), given.as_slice(), Kind::Help)? {
-        return say(rt, HELP);
-    }
-    if is_given(rt.alloc(), given.as_slice(), Kind::Version)? {
-        return say(rt, VERSION);
-    }
-    if is_given(rt.alloc(), given.as_slice(), Kind::Header)? {
-        let input = header_command(rt.alloc(), given.as_slice())?;
-        return print_header(rt, input);
-    }
-    let command = open_command(rt.alloc(), given.as_slice())?;
-    let mut key = [0; 32];
-    let result = open_with(rt, command, given.as_slice(), &mut key);
-    wipe(rt, &mut key);
-    result
-}
-
-// Reads the key that the command names, and opens; the key goes into lent bytes, which the caller wipes.
-fn open_with<'a>(
-    rt: &HostRuntime,
-    command: OpenCommand<'a>,
-    given: &[Given<'a>],
-    key: &mut [u8; 32],
-) -> Result<(), Problem<'a>> {
-    let wanted = context_of(rt.alloc(), given)?;
-    check_output(rt, command.output, command.force)?;
-    check_input(rt, command.input)?;
-    read_key(rt, command.key, key)?;
-    open_file(rt, command, wanted.as_slice(), key)
-}
-
-// A message is gone through twice, which only a regular file allows.
-fn check_input<'a>(rt: &HostRuntime, path: &'a str) -> Result<(), Problem<'a>> {
-    match file_len(rt, path) {
-        Ok(Some(_)) => Ok(()),
-        Ok(None) => Err(Problem::NoFile(path)),
-        Err(error) => Err(Problem::File(Action::Read, path, error)),
-    }
+    run_tool::<StrongboxOpen>(rt)
 }

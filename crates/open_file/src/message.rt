@@ -1,172 +1,130 @@
 // A message gone through, from its file to where its text goes.
 use crate::refusal::refused;
 use crate::source::Source;
-use crate::target::Target;
-use commands::limits::{MAX_FRAME_LENGTH, MAX_TEXT};
+use commands::limits::MAX_TEXT;
 use commands::open::OpenCommand;
-use commands::problem::{Action, Problem};
+use commands::problem::Problem;
 use files::read::{read_full, wipe};
+use files::window::Window;
+use frames::FrameKind;
 use header_front::{HeaderFront, header_front};
-use opening::{FrameText, OpenRefusal, Opener, Step};
+use opening::{OpenRefusal, Opener, Step};
+use programs::{FileResult, START_ROOM, TEXT_ROOM};
 use std::fs::File;
+use std::io::Write;
 
-// The largest header with its tag, the largest frame, and the largest text of one.
-pub const START_ROOM: usize = 16400;
-
-const FRAME_ROOM: usize = 16424;
-
-const TEXT_ROOM: usize = 16384;
-
-// What a final frame has beside its text.
-const FINAL_BESIDE: usize = 40;
-
-// A message that was gone through: how many bytes its header and tag have, and the hash of all its bytes.
-#[derive(Clone, Copy)]
-pub struct Passed {
-    pub header_len: usize,
-    pub digest: [u8; 64],
-}
-
-// Checks the whole message, and hands its text on. The lent bytes are for its header.
-pub fn pass<'a>(
+// Checks the whole message, hands its text on, and answers the hash of all its bytes. The lent bytes are for its header.
+pub fn pass<'a, W: Write>(
     rt: &HostRuntime,
     command: OpenCommand<'a>,
     key: &[u8; 32],
     start: &mut [u8; START_ROOM],
-    target: &mut Target,
-) -> Result<Passed, Problem<'a>> {
-    let mut file = match File::open(rt, command.input) {
-        Ok(file) => file,
-        Err(error) => return Err(Problem::File(Action::Read, command.input, error)),
-    };
-    let len = match read_full(&mut file, start) {
-        Ok(len) => len,
-        Err(error) => return Err(Problem::File(Action::Read, command.input, error)),
-    };
-    let mut opener = match Opener::new(key, &start[0..len]) {
-        Ok(opener) => opener,
-        Err(refusal) => return Err(not_begun(refusal, &start[0..len], command.input)),
-    };
-    let header_len = opener.header_len().min(len);
-    let frames = pass_frames(
-        rt,
-        file,
-        &start[0..header_len],
-        &mut opener,
-        command,
-        target,
-    );
+    out: &mut W,
+) -> Result<[u8; 64], Problem<'a>> {
+    let mut file = File::open(rt, command.input).reading(command.input)?;
+    let len = read_full(&mut file, start).reading(command.input)?;
+    let begun = &start[..len];
+    let mut opener = Opener::new(key, begun).map_err(|refusal| not_begun(
+        refusal,
+        begun,
+        command.input,
+    ))?;
+    let header = &begun[..opener.header_len().min(len)];
+    let digest = pass_frames(rt, command, file, header, &mut opener, out);
     let end = opener.finish();
-    let digest = frames?;
-    match end {
-        Ok(()) => Ok(Passed { header_len, digest }),
-        Err(refusal) => Err(refused(refusal)),
-    }
+    let digest = digest?;
+    end.map_err(refused)?;
+    Ok(digest)
 }
 
 fn not_begun<'a>(refusal: OpenRefusal, start: &[u8], path: &'a str) -> Problem<'a> {
-    if let OpenRefusal::NoHeader = refusal {
-        return no_header(start, path);
+    match refusal {
+        OpenRefusal::NoHeader => no_header(start, path),
+        _ => refused(refusal),
     }
-    refused(refusal)
 }
 
 // Where a file's first bytes are no header, its header may only be longer than they are.
 pub fn no_header<'a>(start: &[u8], path: &'a str) -> Problem<'a> {
-    if start.len() == START_ROOM {
-        if let HeaderFront::Short = header_front(start) {
-            return Problem::LongHeader(path);
-        }
+    if start.len() == START_ROOM
+        && let HeaderFront::Short = header_front(start)
+    {
+        return Problem::LongHeader(path);
     }
     refused(OpenRefusal::NoHeader)
 }
 
-fn pass_frames<'a>(
+fn pass_frames<'a, W: Write>(
     rt: &HostRuntime,
+    command: OpenCommand<'a>,
     file: File,
     header: &[u8],
     opener: &mut Opener,
-    command: OpenCommand<'a>,
-    target: &mut Target,
+    out: &mut W,
 ) -> Result<[u8; 64], Problem<'a>> {
     let frame_length = opener.frame_length();
-    if frame_length > MAX_FRAME_LENGTH {
-        return Err(Problem::LongFrames(command.input, frame_length));
-    }
-    let mut source = match Source::after(rt.alloc(), file, header) {
-        Ok(source) => source,
-        Err(error) => return Err(Problem::File(Action::Read, command.input, error)),
-    };
-    let mut bytes = [0; FRAME_ROOM];
-    let mut text = [0; TEXT_ROOM];
-    let size = frame_length as usize + FINAL_BESIDE;
-    let done = open_frames(
-        &mut source,
-        opener,
-        &mut bytes[0..size],
-        &mut text,
+    let window = Window::new(frame_length as usize + FrameKind::Final.overhead()).ok_or(
+        Problem::LongFrames(command.input, frame_length),
+    )?;
+    let source = Source::after(rt, file, header, window).reading(command.input)?;
+    let mut frames = Frames {
         command,
-        target,
-    );
-    wipe(rt, &mut text);
-    done?;
-    Ok(source.digest())
+        source,
+        text: [0; TEXT_ROOM],
+    };
+    let passed = frames.pass(opener, out);
+    wipe(rt, &mut frames.text);
+    passed?;
+    Ok(frames.source.digest())
 }
 
-// One frame a turn, until the end.
-fn open_frames<'a>(
-    source: &mut Source,
-    opener: &mut Opener,
-    bytes: &mut [u8],
-    text: &mut [u8],
+// A message's frames as they are opened, with room for the text of one.
+#[derive(Drop)]
+struct Frames<'a> {
     command: OpenCommand<'a>,
-    target: &mut Target,
-) -> Result<(), Problem<'a>> {
-    let mut left = MAX_TEXT;
-    for _ in 0..MAX_TEXT + 2 {
-        match open_next(source, opener, bytes, text, command, target) {
-            Ok(Some(len)) => {
-                if len as u64 > left {
-                    return Err(Problem::LongMessage(command.input));
-                }
-                left -= len as u64;
-            }
-            Ok(None) => return Ok(()),
-            Err(problem) => return Err(problem),
+    source: Source,
+    text: [u8; TEXT_ROOM],
+}
+
+impl<'a> Frames<'a> {
+    // One frame a turn, until the end: at most one for each byte of text, a final one without, and a turn that finds the end.
+    fn pass<W: Write>(&mut self, opener: &mut Opener, out: &mut W) -> Result<(), Problem<'a>> {
+        let too_long = Problem::LongMessage(self.command.input);
+        let mut left = MAX_TEXT;
+        for _ in 0..MAX_TEXT + 2 {
+            let Some(len) = self.pass_next(opener, out)? else {
+                return Ok(());
+            };
+            left = left.checked_sub(len as u64).ok_or(too_long)?;
         }
+        Err(too_long)
     }
-    Err(Problem::LongMessage(command.input))
-}
 
-// The next frame's text handed on, and its length; None at the end. The lent bytes are as many as the longest frame has, so that a
-// frame stands there whole or the file ends.
-fn open_next<'a>(
-    source: &mut Source,
-    opener: &mut Opener,
-    bytes: &mut [u8],
-    text: &mut [u8],
-    command: OpenCommand<'a>,
-    target: &mut Target,
-) -> Result<Option<usize>, Problem<'a>> {
-    let have = match source.fill(bytes, command.input) {
-        Ok(have) => have,
-        Err(problem) => return Err(problem),
-    };
-    let at_end = have < bytes.len();
-    let frame = match opener.next(&bytes[0..have], at_end, text) {
-        Ok(Step::Regular(frame)) => frame,
-        Ok(Step::Final(frame)) => frame,
-        Ok(Step::NeedMore) => FrameText { len: 0, taken: 0 },
-        Ok(Step::End) => return Ok(None),
-        Err(refusal) => return Err(refused(refusal)),
-    };
-    let len = frame.len;
-    if len > text.len() {
-        return Err(refused(OpenRefusal::OutTooShort));
-    }
-    source.take(bytes, frame.taken, have);
-    match target.put(&text[0..len], command.output) {
-        Ok(()) => Ok(Some(len)),
-        Err(problem) => Err(problem),
+    // The next frame's text handed on, and its length; None at the end. Opener and `out` are lent anew at each call, since no struct holds
+    // them lent. The source holds as many bytes as the longest frame has, so a
+    // frame stands there whole or the file ends.
+    fn pass_next<W: Write>(
+        &mut self,
+        opener: &mut Opener,
+        out: &mut W,
+    ) -> Result<Option<usize>, Problem<'a>> {
+        self.source.fill().reading(self.command.input)?;
+        let at_end = self.source.is_at_end();
+        let step = opener
+            .next(self.source.bytes(), at_end, &mut self.text)
+            .map_err(refused)?;
+        let frame = match step {
+            Step::Regular(frame) | Step::Final(frame) => frame,
+            // not asked for where the source holds the longest frame; then the turns end it
+            Step::NeedMore => return Ok(Some(0)),
+            Step::End => return Ok(None),
+        };
+        let text = self
+            .text
+            .get(..frame.len)
+            .ok_or(refused(OpenRefusal::OutTooShort))?;
+        self.source.take(frame.taken);
+        out.write_all(text).writing(self.command.output)?;
+        Ok(Some(frame.len))
     }
 }

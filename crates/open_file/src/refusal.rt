@@ -2,6 +2,7 @@
 use commands::problem::Problem;
 use opening::OpenRefusal;
 
+// The words are this program's, so they are a table here and no Display of the library's type.
 fn meaning(refusal: OpenRefusal) -> &'static str {
     match refusal {
         OpenRefusal::OutTooShort => "the frame's text doesn't fit",
@@ -14,6 +15,10 @@ fn meaning(refusal: OpenRefusal) -> &'static str {
     }
 }
 
-pub fn refused<'a>(refusal: OpenRefusal) -> Problem<'a> {
-    Problem::Refused(refusal.number(), refusal.frame(), meaning(refusal))
+pub fn refused(refusal: OpenRefusal) -> Problem<'static> {
+    Problem::Refused {
+        number: refusal.number(),
+        frame: refusal.at_frame(),
+        why: meaning(refusal),
+    }
 }

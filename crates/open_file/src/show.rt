@@ -1,15 +1,12 @@
 // The header of a message, printed for a person. Nothing of it is checked: that takes the key.
 use crate::escaped::{Escaped, EscapedPair};
-use crate::message::{START_ROOM, no_header};
-use commands::problem::{Action, Problem};
-use files::read::{file_len, read_start};
+use crate::message::no_header;
+use commands::problem::Problem;
+use files::read::read_start;
+use frames::FrameKind;
 use header_read::{Context, EncryptedDataKeys, Header, read_header};
+use programs::{FileResult, START_ROOM, input_len, say};
 use std::fmt;
-
-// What a regular and a final frame have beside their text.
-const REGULAR_BESIDE: u64 = 32;
-
-const FINAL_BESIDE: u64 = 40;
 
 // A header with how many bytes it has with its tag, and the message.
 #[derive(Clone, Copy)]
@@ -20,46 +17,30 @@ struct Shown<'m> {
 }
 
 pub fn print_header<'a>(rt: &HostRuntime, path: &'a str) -> Result<(), Problem<'a>> {
-    let message_len = match file_len(rt, path) {
-        Ok(Some(len)) => len,
-        Ok(None) => return Err(Problem::NoFile(path)),
-        Err(error) => return Err(Problem::File(Action::Read, path, error)),
-    };
+    let message_len = input_len(rt, path)?;
     let mut start = [0; START_ROOM];
-    let len = match read_start(rt, path, &mut start) {
-        Ok(len) => len,
-        Err(error) => return Err(Problem::File(Action::Read, path, error)),
-    };
-    let Some(read) = read_header(&start[0..len]) else {
-        return Err(no_header(&start[0..len], path));
-    };
+    let len = read_start(rt, path, &mut start).reading(path)?;
+    let begun = &start[..len];
+    let read = read_header(begun).ok_or_else(|| no_header(begun, path))?;
     let shown = Shown {
         header: read.header,
         header_len: len.saturating_sub(read.rest.len()) as u64,
         message_len,
     };
-    match println!(rt; "{shown}") {
-        Ok(()) => Ok(()),
-        Err(error) => Err(Problem::File(Action::Write, "standard output", error)),
-    }
+    say(rt, shown)
 }
 
 // How many frames so many bytes are, if they are frames; only the final one may have less text than the others.
 fn frames_in(len: u64, frame_length: u32) -> Option<u64> {
-    if len < FINAL_BESIDE {
-        return None;
-    }
-    let beside_final = len - FINAL_BESIDE;
-    let regular = frame_length as u64 + REGULAR_BESIDE;
-    if beside_final % regular > frame_length as u64 {
-        return None;
-    }
-    Some(beside_final / regular + 1)
+    let beside_final = len.checked_sub(FrameKind::Final.overhead() as u64)?;
+    let longest_text = frame_length as u64;
+    let regular = longest_text + FrameKind::Regular.overhead() as u64;
+    (beside_final % regular <= longest_text).then_some(beside_final / regular + 1)
 }
 
 fn write_context<W: fmt::Write>(f: &mut fmt::Formatter<W>, context: Context) -> fmt::Result {
-    for one in context.pairs() {
-        let pair = EscapedPair(one);
+    for pair in context.pairs() {
+        let pair = EscapedPair(pair);
         write!(f, "context: {pair}\n")?;
     }
     Ok(())
@@ -69,10 +50,10 @@ fn write_data_keys<W: fmt::Write>(
     f: &mut fmt::Formatter<W>,
     keys: EncryptedDataKeys,
 ) -> fmt::Result {
-    for one in keys.data_keys() {
-        let id = Escaped(one.provider_id);
-        let info = Escaped(one.provider_info);
-        let len = one.ciphertext.len();
+    for key in keys.data_keys() {
+        let id = Escaped(key.provider_id);
+        let info = Escaped(key.provider_info);
+        let len = key.ciphertext.len();
         write!(
             f,
             "data key: {len} bytes\n  provider id: {id}\n  provider info: {info}\n"
@@ -85,8 +66,7 @@ impl fmt::Display for Shown<'_> {
     fn fmt<W: fmt::Write>(&self, f: &mut fmt::Formatter<W>) -> fmt::Result {
         f.write_str("message id: ")?;
         for byte in self.header.id {
-            let b = *byte;
-            write!(f, "{b:02x}")?;
+            write!(f, "{byte:02x}")?;
         }
         f.write_str("\n")?;
         write_context(f, self.header.context)?;

@@ -74,14 +74,14 @@ module _ (s : Opener) (bs : List ℕ) (at_end : Bool) (old : List ℕ) where
     pub out_short : length old < length f.sealed.ciphertext → Refused s bs at_end old OutTooShort s
     out_short l = let t = (frame_taken s.unlocked.frame_length s.number bs f [] (sym e)).total in record { same = refl; short = λ z. omega arith; comes = λ z. absurd (z refl) }
 
-    pub wrong_tag : [] ≡ frame_text (key_of s.unlocked.key) s.unlocked.id s.number f → Refused s bs at_end old (FrameTag s.number) s
+    pub wrong_tag : [] ≡ frame_text (key_of s.unlocked.cipher.key) s.unlocked.cipher.id s.number f → Refused s bs at_end old (FrameTag s.number) s
     wrong_tag t = record {
       same = refl;
       short = λ z. absurd (let q = ap refusal_number z in omega arith);
       comes = λ _ h sofar more m w. step_wrong s.unlocked h m s.number sofar (bs ++ more) (frame_on more f) (grown more) t ∙ sym (pick_false s.done _ _ d);
     }
 
-    module _ (b : all_bytes bs ≡ true) (t : List ℕ) (w : (t ∷ []) ≡ frame_text (key_of s.unlocked.key) s.unlocked.id s.number f) (lt : length t ≡ length f.sealed.ciphertext) (lo : length f.sealed.ciphertext ≤ length old) where
+    module _ (b : all_bytes bs ≡ true) (t : List ℕ) (w : (t ∷ []) ≡ frame_text (key_of s.unlocked.cipher.key) s.unlocked.cipher.id s.number f) (lt : length t ≡ length f.sealed.ciphertext) (lo : length f.sealed.ciphertext ≤ length old) where
       abbrev text : FrameText
       text = record { len = length f.sealed.ciphertext; taken = length bs - length f.rest }
 

@@ -31,7 +31,7 @@ frames_begin (suc k) dk h n sofar bs c text e =
 begins : (s : Opener) (h : Header) (sofar bs : List ℕ) (c : List Pair) (text : List ℕ) → comes_to s h sofar bs ≡ opened c text → (t : List ℕ) × (sofar ++ t ≡ text)
 begins s h sofar bs c text e =
     ⊎_elim (λ d. ([], append-nil sofar ∙ sym (last_some (is_empty bs) s.number h.context c sofar text (sym (pick_true s.done _ _ d) ∙ e)).2))
-    (λ d. frames_begin (suc (length bs)) (key_of s.unlocked.key) h s.number sofar bs c text (sym (pick_false s.done _ _ d) ∙ e)) (cases_Bool s.done)
+    (λ d. frames_begin (suc (length bs)) (key_of s.unlocked.cipher.key) h s.number sofar bs c text (sym (pick_false s.done _ _ d) ∙ e)) (cases_Bool s.done)
 
 -- all calls together
 joins : (cs : List Call) (s : Opener) (h : Header) (sofar bs : List ℕ) → Matches s.unlocked h → Calls s bs cs → comes_to (after s cs) h (sofar ++ texts cs) (left bs cs) ≡ comes_to s h sofar bs

@@ -65,27 +65,27 @@ module _ (u : Unlocked) (h : Header) (m : Matches u h) (n : ℕ) (sofar bs : Lis
   size_is : read_frame u.frame_length n bs ≡ read_frame h.frame_length n bs
   size_is = ap (λ s. read_frame s n bs) (sym m.frame_length)
 
-  pub step_none : [] ≡ read_frame u.frame_length n bs → not_opened 6 n ≡ open_rest (key_of u.key) h n sofar bs
-  step_none e = frame_none n _ _ (e ∙ size_is) ∙ open_turn (length bs) (key_of u.key) h n sofar bs
+  pub step_none : [] ≡ read_frame u.frame_length n bs → not_opened 6 n ≡ open_rest (key_of u.cipher.key) h n sofar bs
+  step_none e = frame_none n _ _ (e ∙ size_is) ∙ open_turn (length bs) (key_of u.cipher.key) h n sofar bs
 
-  pub step_wrong : (f : ReadFrame) → (f ∷ []) ≡ read_frame u.frame_length n bs → [] ≡ frame_text (key_of u.key) u.id n f → not_opened 7 n ≡ open_rest (key_of u.key) h n sofar bs
+  pub step_wrong : (f : ReadFrame) → (f ∷ []) ≡ read_frame u.frame_length n bs → [] ≡ frame_text (key_of u.cipher.key) u.cipher.id n f → not_opened 7 n ≡ open_rest (key_of u.cipher.key) h n sofar bs
   step_wrong f e t =
-      text_none n h sofar f _ _ (t ∙ ap (λ i. frame_text (key_of u.key) i n f) (sym m.id)) ∙ frame_some n f _ _ (e ∙ size_is) ∙ open_turn (length bs) (key_of u.key) h n sofar bs
+      text_none n h sofar f _ _ (t ∙ ap (λ i. frame_text (key_of u.cipher.key) i n f) (sym m.id)) ∙ frame_some n f _ _ (e ∙ size_is) ∙ open_turn (length bs) (key_of u.cipher.key) h n sofar bs
 
-  pub step_some : (f : ReadFrame) (t : List ℕ) → (f ∷ []) ≡ read_frame u.frame_length n bs → (t ∷ []) ≡ frame_text (key_of u.key) u.id n f
-      → then_frames n h sofar f t (open_rest (key_of u.key) h (n + 1) (sofar ++ t) f.rest) ≡ open_rest (key_of u.key) h n sofar bs
+  pub step_some : (f : ReadFrame) (t : List ℕ) → (f ∷ []) ≡ read_frame u.frame_length n bs → (t ∷ []) ≡ frame_text (key_of u.cipher.key) u.cipher.id n f
+      → then_frames n h sofar f t (open_rest (key_of u.cipher.key) h (n + 1) (sofar ++ t) f.rest) ≡ open_rest (key_of u.cipher.key) h n sofar bs
   step_some f t e w =
       let l = (frame_taken u.frame_length n bs f [] (sym e)).total in
       ap (λ x. then_frames n h sofar f t x)
-      (ap (λ i. open_rest (key_of u.key) h i (sofar ++ t) f.rest) (add-one n) ∙ open_fuel (suc (length f.rest)) (length bs) (key_of u.key) h (suc n) (sofar ++ t) f.rest (omega arith) (omega arith))
-      ∙ text_some n h sofar t f _ _ (w ∙ ap (λ i. frame_text (key_of u.key) i n f) (sym m.id)) ∙ frame_some n f _ _ (e ∙ size_is) ∙ open_turn (length bs) (key_of u.key) h n sofar bs
+      (ap (λ i. open_rest (key_of u.cipher.key) h i (sofar ++ t) f.rest) (add-one n) ∙ open_fuel (suc (length f.rest)) (length bs) (key_of u.cipher.key) h (suc n) (sofar ++ t) f.rest (omega arith) (omega arith))
+      ∙ text_some n h sofar t f _ _ (w ∙ ap (λ i. frame_text (key_of u.cipher.key) i n f) (sym m.id)) ∙ frame_some n f _ _ (e ∙ size_is) ∙ open_turn (length bs) (key_of u.cipher.key) h n sofar bs
 
-  pub step_final : (f : ReadFrame) (t : List ℕ) → (f ∷ []) ≡ read_frame u.frame_length n bs → (t ∷ []) ≡ frame_text (key_of u.key) u.id n f → f.last ≡ true
-      → pick (is_empty f.rest) (opened h.context (sofar ++ t)) (not_opened 8 n) ≡ open_rest (key_of u.key) h n sofar bs
+  pub step_final : (f : ReadFrame) (t : List ℕ) → (f ∷ []) ≡ read_frame u.frame_length n bs → (t ∷ []) ≡ frame_text (key_of u.cipher.key) u.cipher.id n f → f.last ≡ true
+      → pick (is_empty f.rest) (opened h.context (sofar ++ t)) (not_opened 8 n) ≡ open_rest (key_of u.cipher.key) h n sofar bs
   step_final f t e w l = sym (pick_true f.last _ _ l) ∙ step_some f t e w
 
-  pub step_regular : (f : ReadFrame) (t : List ℕ) → (f ∷ []) ≡ read_frame u.frame_length n bs → (t ∷ []) ≡ frame_text (key_of u.key) u.id n f → f.last ≡ false
-      → open_rest (key_of u.key) h (n + 1) (sofar ++ t) f.rest ≡ open_rest (key_of u.key) h n sofar bs
+  pub step_regular : (f : ReadFrame) (t : List ℕ) → (f ∷ []) ≡ read_frame u.frame_length n bs → (t ∷ []) ≡ frame_text (key_of u.cipher.key) u.cipher.id n f → f.last ≡ false
+      → open_rest (key_of u.cipher.key) h (n + 1) (sofar ++ t) f.rest ≡ open_rest (key_of u.cipher.key) h n sofar bs
   step_regular f t e w l = sym (pick_false f.last _ _ l) ∙ step_some f t e w
 
 -- what a frame that was opened, or wasn't, says of its text
@@ -97,7 +97,7 @@ text_lacks dk id n f old out w l = sym (pick_false false _ _ refl) ∙ w.text l
 
 -- in the middle of a message: what is left to do gives what the frames come to, and there is room for it
 pub record Going (u : Unlocked) (bs out rest : List ℕ) (n at : ℕ) : Type 0 where
-  pub goes : (h : Header) → Matches u h → open_rest (key_of u.key) h n (take at out) rest ≡ open_rest (key_of u.key) h 1 [] bs
+  pub goes : (h : Header) → Matches u h → open_rest (key_of u.cipher.key) h n (take at out) rest ≡ open_rest (key_of u.cipher.key) h 1 [] bs
   pub room : at + length rest ≤ length out
 
 pub going_first : (u : Unlocked) (bs out : List ℕ) → length bs ≤ length out → Going u bs out bs 1 0
@@ -113,7 +113,7 @@ module _ (u : Unlocked) (bs out rest t : List ℕ) (n at : ℕ) (f : ReadFrame) 
   pub part_long : length (take (at + length f.sealed.ciphertext - at) (drop at out)) ≡ length f.sealed.ciphertext
   part_long = let a = fits in let b = length-drop at out in length-take-le (at + length f.sealed.ciphertext - at) (drop at out) (omega arith) ∙ omega arith
 
-  pub going_more : (k end : ℕ) → (t ∷ []) ≡ frame_text (key_of u.key) u.id n f → f.last ≡ false → length t ≡ length f.sealed.ciphertext → end ≡ at + length t → k ≡ length t
+  pub going_more : (k end : ℕ) → (t ∷ []) ≡ frame_text (key_of u.cipher.key) u.cipher.id n f → f.last ≡ false → length t ≡ length f.sealed.ciphertext → end ≡ at + length t → k ≡ length t
       → Going u bs (put_mid at k out t) f.rest (n + 1) end
   going_more k end ft l lt ee ek =
       let a = taken.total in
@@ -121,13 +121,13 @@ module _ (u : Unlocked) (bs out rest t : List ℕ) (n at : ℕ) (f : ReadFrame) 
       let long : length (put_mid at k out t) ≡ length out = ap length (spliced_mid at k out t t refl ek) ∙ length-spliced out at t (omega arith) in
       record {
         goes = λ h m.
-            ap (λ s. open_rest (key_of u.key) h (n + 1) s f.rest) (take-put_mid at k out t end ee (omega arith)) ∙ step_regular u h m n (take at out) rest f t e ft l ∙ w.goes h m;
+            ap (λ s. open_rest (key_of u.cipher.key) h (n + 1) s f.rest) (take-put_mid at k out t end ee (omega arith)) ∙ step_regular u h m n (take at out) rest f t e ft l ∙ w.goes h m;
         room = omega arith;
       }
 
   -- the final frame
-  pub going_final : (k end : ℕ) → (t ∷ []) ≡ frame_text (key_of u.key) u.id n f → f.last ≡ true → end ≡ at + length t
-      → (h : Header) → Matches u h → pick (is_empty f.rest) (opened h.context (take end (put_mid at k out t))) (not_opened 8 n) ≡ open_rest (key_of u.key) h 1 [] bs
+  pub going_final : (k end : ℕ) → (t ∷ []) ≡ frame_text (key_of u.cipher.key) u.cipher.id n f → f.last ≡ true → end ≡ at + length t
+      → (h : Header) → Matches u h → pick (is_empty f.rest) (opened h.context (take end (put_mid at k out t))) (not_opened 8 n) ≡ open_rest (key_of u.cipher.key) h 1 [] bs
   going_final k end ft l ee h m =
       let b = w.room in
       ap (λ s. pick (is_empty f.rest) (opened h.context s) (not_opened 8 n)) (take-put_mid at k out t end ee (omega arith)) ∙ step_final u h m n (take at out) rest f t e ft l ∙ w.goes h m

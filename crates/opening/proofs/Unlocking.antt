@@ -1,7 +1,10 @@
 -- A header that was read: where its parts end, and what the checks of its commitment and its tag say of the message.
-use Rattle.std.proofs.Common.{◌≡◌, ℕ, suc, ◌+◌, ◌-◌, ◌<◌, Bool, true, false, List, [], ◌∷◌, ◌++◌, length, get_or, sym, refl, ap, ◌∙◌, append_assoc, arith, length-append, take_at, drop_at}
+use Rattle.std.proofs.Common.{◌≡◌, ℕ, suc, ◌+◌, ◌-◌, ◌<◌, Bool, true, false, List, [], ◌∷◌, ◌++◌, length, get_or, sym, refl, ap, ◌∙◌, append_assoc, arith, length-append, take_at, drop_at, Some, None, Option, subst, eqb}
 use lib.ListN as L
-use Rattle.std.proofs.lemmas.Bool.{and_from, lt-ltb}
+use Rattle.std.proofs.lemmas.Bool.{and_from, lt-ltb, eq-eqb, cond-true}
+use Rattle.std.specs.Option.{IsSome}
+use Rattle.header.specs.Checked.{array_32}
+use Rattle.header.proofs.Lengths.{some_cond}
 use Rattle.octets.specs.Bytes.{all_bytes, bytes_eq}
 use Rattle.octets.proofs.Bits.{pick_true, pick_false}
 use Rattle.hkdf.specs.MessageKeys.{sealing_key, commitment}
@@ -77,3 +80,10 @@ opening_none k bs e = ap (λ xs. with_header xs (λ x. open_read k x.header x.ta
 pub opening_some : (k bs : List ℕ) (x : ReadHeader) → (x ∷ []) ≡ read_header bs → open_read k x.header x.tag x.rest ≡ opening k bs
 unfolding with_header
 opening_some k bs x e = ap (λ xs. with_header xs (λ x. open_read k x.header x.tag x.rest)) e ∙ opening_is k bs
+
+-- 32 bytes are there by value, and are what they were
+pub id_there : (bs : List ℕ) (r : Option (List ℕ)) → r ≡ array_32 bs → length bs ≡ 32 → IsSome r
+id_there bs r e h = subst IsSome (sym (e ∙ cond-true (eqb (length bs) 32) (Some bs) None (eq-eqb _ _ h))) refl
+
+pub id_is : (bs id : List ℕ) (r : Option (List ℕ)) → r ≡ array_32 bs → r ≡ Some id → id ≡ bs
+id_is bs id r e f = (some_cond _ _ _ (sym f ∙ e)).1

@@ -19,7 +19,7 @@ use Rattle.opening.specs.declared.state.Step.TheVariants.{NeedMore, Regular, Fin
 
 -- what a message with this header comes to, of which so much text was given out and these bytes are left
 abbrev pub comes_to : Opener → Header → List ℕ → List ℕ → Opening.Opened
-comes_to s h sofar left = pick s.done (pick (is_empty left) (opened h.context sofar) (not_opened 8 s.number)) (open_rest (key_of s.unlocked.key) h s.number sofar left)
+comes_to s h sofar left = pick s.done (pick (is_empty left) (opened h.context sofar) (not_opened 8 s.number)) (open_rest (key_of s.unlocked.cipher.key) h s.number sofar left)
 
 -- begun: a header was read from the front of the bytes, and whatever follows them the message comes to what its frames come to
 pub record Begun (k bs : List ℕ) (s : Opener) : Type 0 where

@@ -27,12 +27,12 @@ open_read k h tag rest =
 
 -- the header that it was unlocked with, as far as frames need it
 pub record Matches (u : Unlocked) (h : Header) : Type 0 where
-  pub id : h.id ≡ u.id
+  pub id : h.id ≡ u.cipher.id
   pub frame_length : h.frame_length ≡ u.frame_length
 
 -- unlocked: whatever comes after, the message comes to what its frames do under this key; refused: it comes to the refusal
 abbrev pub Unlocks : List ℕ → Header → List ℕ → Result Unlocked OpenRefusal → Type 0
-Unlocks k h tag (Ok u) = Matches u h × ((rest : List ℕ) → open_rest (key_of u.key) h 1 [] rest ≡ open_read k h tag rest)
+Unlocks k h tag (Ok u) = Matches u h × ((rest : List ℕ) → open_rest (key_of u.cipher.key) h 1 [] rest ≡ open_read k h tag rest)
 Unlocks k h tag (Err e) = (rest : List ℕ) → refused e ≡ open_read k h tag rest
 
 -- the texts of all frames, or a refusal
@@ -41,7 +41,7 @@ frames_answer h (Ok len) out = opened h.context (take len out)
 frames_answer h (Err e) out = refused e
 
 abbrev pub FramesOpen : Unlocked → List ℕ → Result ℕ OpenRefusal → List ℕ → Type 0
-FramesOpen u bs r out = (h : Header) → Matches u h → frames_answer h r out ≡ open_rest (key_of u.key) h 1 [] bs
+FramesOpen u bs r out = (h : Header) → Matches u h → frames_answer h r out ≡ open_rest (key_of u.cipher.key) h 1 [] bs
 
 -- how many of the lent bytes are text
 abbrev pub frames_len : Result ℕ OpenRefusal → ℕ

@@ -11,14 +11,15 @@ use crate::walk::open_frames;
 use header_read::{Context, read_header};
 use octets::clear;
 
-// A message that opened: the encryption context, over the message's bytes, and how long the text is.
+// A message that opened: the encryption context, over the message's bytes, and how long the text is, which stands in the lent
+// bytes: nothing is allocated for it.
 #[derive(Clone, Copy)]
 pub struct Opened<'m> {
     pub context: Context<'m>,
     pub len: usize,
 }
 
-// The text, from the front of enough lent bytes on.
+// The text, from the front of enough lent bytes on. A refusal goes by `let .. else`.
 fn open_message<'m>(
     key: &[u8; 32],
     message: &'m [u8],
@@ -33,11 +34,10 @@ fn open_message<'m>(
     };
     let mut unlocked = unlock(key, message, read)?;
     let opened = open_frames(&unlocked, read.rest, out);
-    unlocked.key.wipe();
-    let len = opened?;
+    unlocked.cipher.wipe();
     Ok(Opened {
         context: read.header.context,
-        len,
+        len: opened?,
     })
 }
 
@@ -56,10 +56,7 @@ pub fn open<'m>(
         return Err(OpenRefusal::OutTooShort);
     }
     let answer = open_message(key, message, out);
-    let Ok(opened) = answer else {
-        clear(out);
-        return answer;
-    };
-    clear(&mut out[opened.len..]);
+    let len = answer.map_or(0, |opened| opened.len);
+    clear(&mut out[len..]);
     answer
 }

@@ -7,15 +7,12 @@ ghost use Rattle.opening.specs.Opener.{Begins, Steps, Nexts, Ends};
 use crate::refusal::OpenRefusal;
 use crate::state::{FrameText, Opener, Step};
 use crate::unlock::unlock;
-use frames::{open_frame, read_frame};
+use frames::{FrameKind, read_frame};
 use header_read::read_header;
 use octets::clear;
 
-// no frame is longer than its text and so much
-const FRAME_OVERHEAD: usize = 40;
-
 impl Opener {
-    // Begins with bytes that a header and its tag stand at the front of.
+    // Begins with bytes that a header and its tag stand at the front of. Refusals go by `let .. else`, here and below.
     pub fn new(key: &[u8; 32], bytes: &[u8]) -> Result<Opener, OpenRefusal>
         ensures value { Begins key.now bytes.now result }
     {
@@ -56,7 +53,10 @@ impl Opener {
             return Err(OpenRefusal::AfterFinal(self.number));
         }
         let Some(frame) = read_frame(self.unlocked.frame_length, self.number, bytes) else {
-            if at_end || bytes.len() >= self.unlocked.frame_length as usize + FRAME_OVERHEAD {
+            if at_end
+                || bytes.len()
+                    >= self.unlocked.frame_length as usize + FrameKind::Final.overhead()
+            {
                 return Err(OpenRefusal::Frame(self.number));
             }
             return Ok(Step::NeedMore);
@@ -65,25 +65,24 @@ impl Opener {
         if out.len() < len {
             return Err(OpenRefusal::OutTooShort);
         }
-        if !open_frame(
-            &self.unlocked.key,
-            &self.unlocked.id,
-            self.number,
-            frame,
-            &mut out[0..len],
-        ) {
+        let cipher = &self.unlocked.cipher;
+        let Ok(()) = cipher.open_frame(self.number, frame, &mut out[0..len]) else {
             return Err(OpenRefusal::FrameTag(self.number));
-        }
+        };
         let text = FrameText {
             len,
             taken: bytes.len() - frame.rest.len(),
         };
-        if frame.last {
-            self.done = true;
-            return Ok(Step::Final(text));
+        match frame.kind {
+            FrameKind::Regular => {
+                self.number += 1;
+                Ok(Step::Regular(text))
+            }
+            FrameKind::Final => {
+                self.done = true;
+                Ok(Step::Final(text))
+            }
         }
-        self.number += 1;
-        Ok(Step::Regular(text))
     }
 
     // Opens the frame at the front of the bytes that follow what was taken so far; `at_end` says that nothing follows them. After a
@@ -92,19 +91,18 @@ impl Opener {
         ensures value { Nexts self.old bytes.now at_end out.old result self.new out.new }
     {
         let answer = self.step(bytes, at_end, out);
-        if answer.is_ok() {
-            return answer;
+        if answer.is_err() {
+            clear(out);
         }
-        clear(out);
         answer
     }
 
     // Ends where nothing follows what was taken: refused where the final frame wasn't opened. The key is overwritten.
     pub fn finish(&mut self) -> Result<(), OpenRefusal>
         ensures value { Ends self.old result }
-        ensures wiped { key_of self.new.unlocked.key ≡ repeat 32 0 }
+        ensures wiped { key_of self.new.unlocked.cipher.key ≡ repeat 32 0 }
     {
-        self.unlocked.key.wipe();
+        self.unlocked.cipher.wipe();
         if self.done {
             return Ok(());
         }

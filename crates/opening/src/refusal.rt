@@ -1,8 +1,8 @@
 // Why a message isn't opened. A frame's refusals say its number.
 ghost use Rattle.std.specs.Prelude.{◌≡◌};
-ghost use Rattle.opening.specs.Refusal.{refusal_number, refusal_frame};
+ghost use Rattle.opening.specs.Refusal.{refusal_number, frame_at, refusal_frame};
 
-#[derive(Clone, Copy, Debug, PartialEq)]
+#[derive(Clone, Copy, Debug, PartialEq, Eq)]
 pub enum OpenRefusal {
     // fewer lent bytes than the message has
     OutTooShort,
@@ -36,15 +36,22 @@ impl OpenRefusal {
         }
     }
 
-    // the number of the frame that it is at, or 0
+    // the number of the frame that it is at
+    pub fn at_frame(self) -> Option<u32>
+        ensures value { result ≡ frame_at self }
+    {
+        match self {
+            OpenRefusal::Frame(n) | OpenRefusal::FrameTag(n) | OpenRefusal::AfterFinal(n) => Some(
+                n,
+            ),
+            _ => None,
+        }
+    }
+
+    // the same, or 0, as the format's refusals say it
     pub fn frame(self) -> u32
         ensures value { result ≡ refusal_frame self }
     {
-        match self {
-            OpenRefusal::Frame(n) => n,
-            OpenRefusal::FrameTag(n) => n,
-            OpenRefusal::AfterFinal(n) => n,
-            _ => 0,
-        }
+        self.at_frame().unwrap_or(0)
     }
 }

@@ -1,7 +1,7 @@
 // How far the opening of a message has come, and what one frame more answers.
 use crate::unlock::Unlocked;
 
-// number is the next frame's, or the final frame's once it was opened
+// number is the next frame's, or the final frame's once it was opened: an enum of the two states would hold it in both
 #[derive(Drop)]
 pub struct Opener {
     pub(crate) unlocked: Unlocked,
@@ -10,14 +10,14 @@ pub struct Opener {
     pub(crate) done: bool,
 }
 
-// A frame that was opened: the length of its text, and how many of the lent bytes it took.
-#[derive(Clone, Copy, Debug, PartialEq)]
+// A frame that was opened: the length of its text, which stands in the caller's bytes, and how many of the lent bytes it took.
+#[derive(Clone, Copy, Debug, PartialEq, Eq)]
 pub struct FrameText {
     pub len: usize,
     pub taken: usize,
 }
 
-#[derive(Clone, Copy, Debug, PartialEq)]
+#[derive(Clone, Copy, Debug, PartialEq, Eq)]
 pub enum Step {
     // the frame may be longer than the bytes that were lent
     NeedMore,

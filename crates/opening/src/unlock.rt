@@ -9,35 +9,26 @@ ghost use Rattle.header_read.specs.Parts.{header_in, read_header_in};
 ghost use Rattle.opening.specs.Unlocked.{Unlocks};
 
 use crate::refusal::OpenRefusal;
-use frames::header_tag;
+use frames::MessageCipher;
 use gcm::Key;
+use header::array_32;
 use header_read::ReadHeader;
 use hkdf::{MessageKeys, message_keys};
 use octets::equal;
 
 #[derive(Drop)]
 pub struct Unlocked {
-    pub key: Key,
-    pub id: [u8; 32],
+    pub cipher: MessageCipher,
     pub frame_length: u32,
 }
 
-fn copy_32(bytes: &[u8]) -> [u8; 32]
-    requires { length bytes.now ≡ 32 }
-    ensures { result ≡ bytes.now }
-{
-    let mut all = [0; 32];
-    all.copy_from_slice(bytes);
-    all
-}
-
 // Whether the tag is that of the bytes that the header was read from.
-fn header_tag_right(key: &Key, bytes: &[u8], read: ReadHeader) -> bool
+fn header_tag_right(cipher: &MessageCipher, bytes: &[u8], read: ReadHeader) -> bool
     requires { (read_header_in read ∷ []) ≡ read_header bytes.now }
-    ensures { result ≡ bytes_eq (header_tag (key_of key.now) (header_bytes (header_in read.entry.header))) read.entry.tag.now }
+    ensures { result ≡ bytes_eq (header_tag (key_of cipher.now.key) (header_bytes (header_in read.entry.header))) read.entry.tag.now }
 {
     let end = bytes.len() - read.rest.len() - read.tag.len();
-    let tag = header_tag(key, &bytes[0..end]);
+    let tag = cipher.header_tag(&bytes[0..end]);
     equal(&tag, read.tag)
 }
 
@@ -47,7 +38,7 @@ pub fn unlock(key: &[u8; 32], bytes: &[u8], read: ReadHeader) -> Result<Unlocked
     ensures { Unlocks key.now (header_in read.entry.header) read.entry.tag.now result }
 {
     let header = read.header;
-    let id = copy_32(header.id);
+    let id = array_32(header.id).unwrap();
     let MessageKeys {
         mut sealing_key,
         commitment,
@@ -56,15 +47,17 @@ pub fn unlock(key: &[u8; 32], bytes: &[u8], read: ReadHeader) -> Result<Unlocked
         sealing_key.fill(0);
         return Err(OpenRefusal::Commitment);
     }
-    let mut prepared = Key::new(&sealing_key);
+    let mut cipher = MessageCipher {
+        key: Key::new(&sealing_key),
+        id,
+    };
     sealing_key.fill(0);
-    if !header_tag_right(&prepared, bytes, read) {
-        prepared.wipe();
+    if !header_tag_right(&cipher, bytes, read) {
+        cipher.wipe();
         return Err(OpenRefusal::HeaderTag);
     }
     Ok(Unlocked {
-        key: prepared,
-        id,
+        cipher,
         frame_length: header.frame_length,
     })
 }

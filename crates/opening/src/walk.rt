@@ -4,7 +4,7 @@ ghost use Rattle.opening.specs.Unlocked.{FramesOpen, frames_len};
 
 use crate::refusal::OpenRefusal;
 use crate::unlock::Unlocked;
-use frames::{open_frame, read_frame};
+use frames::{FrameKind, read_frame};
 
 // The texts of all frames, one after another, from the front of the lent bytes on; and how long they are.
 pub fn open_frames(unlocked: &Unlocked, bytes: &[u8], out: &mut [u8]) -> Result<usize, OpenRefusal>
@@ -15,29 +15,28 @@ pub fn open_frames(unlocked: &Unlocked, bytes: &[u8], out: &mut [u8]) -> Result<
     let mut rest = bytes;
     let mut number = 1u32;
     let mut at = 0;
+    // left by its label at the first frame that isn't whole or right
     let refusal = 'frames: loop {
         let Some(frame) = read_frame(unlocked.frame_length, number, rest) else {
             break 'frames OpenRefusal::Frame(number);
         };
         let end = at + frame.ciphertext.len();
-        if !open_frame(
-            &unlocked.key,
-            &unlocked.id,
-            number,
-            frame,
-            &mut out[at..end],
-        ) {
+        let Ok(()) = unlocked.cipher.open_frame(number, frame, &mut out[at..end]) else {
             break 'frames OpenRefusal::FrameTag(number);
-        }
-        if frame.last {
-            if frame.rest.is_empty() {
-                return Ok(end);
+        };
+        match frame.kind {
+            FrameKind::Regular => {
+                rest = frame.rest;
+                at = end;
+                number += 1;
             }
-            break 'frames OpenRefusal::AfterFinal(number);
+            FrameKind::Final => {
+                if frame.rest.is_empty() {
+                    return Ok(end);
+                }
+                break 'frames OpenRefusal::AfterFinal(number);
+            }
         }
-        rest = frame.rest;
-        at = end;
-        number += 1;
     };
     Err(refusal)
 }

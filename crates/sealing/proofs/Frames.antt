@@ -23,7 +23,7 @@ unfolding final_frame
 frames_last k key id t size n h = sym (O.frames_last k key id size n t (le-ltb size (length t) h))
 
 -- with enough fuel it doesn't matter how much
-frames_fuel : (k m : ℕ) (key id t : List ℕ) (size n : ℕ) → 0 < size → length t < k → length t < m → frames k key id size n t ≡ frames m key id size n t
+pub frames_fuel : (k m : ℕ) (key id t : List ℕ) (size n : ℕ) → 0 < size → length t < k → length t < m → frames k key id size n t ≡ frames m key id size n t
 frames_fuel zero m key id t size n p a b = absurd (omega arith)
 frames_fuel (suc k) zero key id t size n p a b = absurd (omega arith)
 frames_fuel (suc k) (suc m) key id t size n p a b =

@@ -87,10 +87,10 @@ same_frames : (k : ℕ) (t key key' id id' : List ℕ) (size size' n n' : ℕ) �
 same_frames k t key key' id id' size size' n n' p q r s = ap₂ (λ a b. frames k a b size n t) p q ∙ ap₂ (λ a b. frames k key' id' a b t) r s
 
 joined : (cs : List Call) (s : Sealer) (text out : List ℕ) (room : ℕ) → 0 < s.frame_length → 0 < s.number → Calls s cs → final_answer (sealer_after s cs) (length text) room ≡ Ok tt
-    → out ≡ final_frame (key_of (sealer_after s cs).cipher) (sealer_after s cs).id (sealer_after s cs).number text
-    → frames_written cs ++ out ≡ frames (suc (length (texts cs ++ text))) (key_of s.cipher) s.id s.frame_length s.number (texts cs ++ text)
+    → out ≡ final_frame (key_of (sealer_after s cs).cipher.key) (sealer_after s cs).cipher.id (sealer_after s cs).number text
+    → frames_written cs ++ out ≡ frames (suc (length (texts cs ++ text))) (key_of s.cipher.key) s.cipher.id s.frame_length s.number (texts cs ++ text)
 unfolding Calls sealer_after texts frames_written
-joined [] s text out room p n h e f = f ∙ frames_last (length text) (key_of s.cipher) s.id text s.frame_length s.number (final_asked s (length text) room e).short
+joined [] s text out room p n h e f = f ∙ frames_last (length text) (key_of s.cipher.key) s.cipher.id text s.frame_length s.number (final_asked s (length text) room e).short
 joined (c ∷ cs) s text out room p n h e f =
     let g = h.1 in
     let gl = g.frame_length in
@@ -100,8 +100,8 @@ joined (c ∷ cs) s text out room p n h e f =
     let ih = joined cs c.after text out room (omega arith) (omega arith) h.2 e f ∙ same_frames (suc (length rest)) rest _ _ _ _ _ _ _ _ g.cipher g.id g.frame_length g.number in
     append_assoc c.written (frames_written cs) out
     ∙ ap₂ (λ a b. a ++ b) g.frame ih
-    ∙ frames_join (key_of s.cipher) s.id c.text rest s.frame_length s.number p (regular_asked s (length c.text) c.room h.0) some
-    ∙ ap (λ l. frames (suc (length l)) (key_of s.cipher) s.id s.frame_length s.number l) (sym (append_assoc c.text (texts cs) text))
+    ∙ frames_join (key_of s.cipher.key) s.cipher.id c.text rest s.frame_length s.number p (regular_asked s (length c.text) c.room h.0) some
+    ∙ ap (λ l. frames (suc (length l)) (key_of s.cipher.key) s.cipher.id s.frame_length s.number l) (sym (append_assoc c.text (texts cs) text))
 
 not_refused : (key : List ℕ) (h : HeaderRequest) (s : Sealer) (cs : List Call) (text : List ℕ) (room : ℕ) → Begun key h s → Calls s cs → final_answer (sealer_after s cs) (length text) room ≡ Ok tt
     → seal_refusal (request_with key h (texts cs ++ text)) ≡ 0

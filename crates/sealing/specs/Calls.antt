@@ -4,7 +4,9 @@ use Rattle.octets.specs.Splice.{Written}
 use Rattle.hkdf.specs.MessageKeys.{sealing_key}
 use Rattle.gcm.specs.Key.{key_of}
 use Rattle.format.specs.Request.{seal_refusal}
-use Rattle.frames.specs.Frame.{regular_frame, final_frame}
+use Rattle.frames.specs.Frame.{frame_fits, regular_frame, final_frame}
+use Rattle.frames.specs.declared.frame.FrameKind.{FrameKind}
+use Rattle.frames.specs.declared.frame.FrameKind.TheVariants.{Regular, Final}
 use Rattle.header.specs.Models.{request_with}
 use Rattle.header.specs.Checked.{header_refusal, text_fits}
 use Rattle.header.specs.declared.refusal.SealRefusal.{SealRefusal}
@@ -18,8 +20,8 @@ use Rattle.sealing.specs.declared.state.FrameRefusal.TheVariants.{Finished, Text
 pub record Begun (key : List ℕ) (h : HeaderRequest) (s : Sealer) : Type 0 where
   pub key_long : length key ≡ 32
   pub passed : header_refusal (request_with [] h []) ≡ 0
-  pub cipher : key_of s.cipher ≡ sealing_key key h.id.now
-  pub id : s.id ≡ h.id.now
+  pub cipher : key_of s.cipher.key ≡ sealing_key key h.id.now
+  pub id : s.cipher.id ≡ h.id.now
   pub frame_length : s.frame_length ≡ h.frame_length
   pub number : s.number ≡ 1
   pub unfinished : s.finished ≡ false
@@ -36,7 +38,6 @@ text_before s = (s.number - 1) * s.frame_length
 -- a sealer that is as it was
 pub record Unchanged (s s' : Sealer) : Type 0 where
   pub cipher : s'.cipher ≡ s.cipher
-  pub id : s'.id ≡ s.id
   pub frame_length : s'.frame_length ≡ s.frame_length
   pub number : s'.number ≡ s.number
   pub finished : s'.finished ≡ s.finished
@@ -49,9 +50,9 @@ regular_answer s text room =
     (cond (nat_lt s.number 4294967295 && text_fits (text_before s + text) s.frame_length) (cond (room == text + 32) (Ok tt) (Err OutLength)) (Err Text)) (Err TextLength))
 
 pub record RegularSealed (s : Sealer) (text : List ℕ) (s' : Sealer) (out : List ℕ) : Type 0 where
-  pub frame : out ≡ regular_frame (key_of s.cipher) s.id s.number text
-  pub cipher : key_of s'.cipher ≡ key_of s.cipher
-  pub id : s'.id ≡ s.id
+  pub frame : out ≡ regular_frame (key_of s.cipher.key) s.cipher.id s.number text
+  pub cipher : key_of s'.cipher.key ≡ key_of s.cipher.key
+  pub id : s'.cipher.id ≡ s.cipher.id
   pub frame_length : s'.frame_length ≡ s.frame_length
   pub number : s'.number ≡ s.number + 1
   pub unfinished : s'.finished ≡ false
@@ -64,6 +65,22 @@ SealsRegular s text old (Err e) s' out = Unchanged s s' × (out ≡ old)
 abbrev pub may_end : Sealer → ℕ → Bool
 may_end s text = nat_le text s.frame_length && (nat_lt 0 text || s.number == 1)
 
+-- whether the next frame may be of a kind, and may have so much text
+abbrev pub comes : FrameKind → Sealer → Bool
+comes Regular s = nat_lt s.number 4294967295
+comes Final s = true
+
+abbrev pub takes : FrameKind → Sealer → ℕ → Bool
+takes Regular s text = text == s.frame_length
+takes Final s text = may_end s text
+
+-- what a call for a frame of a kind answers
+abbrev pub frame_answer : FrameKind → Sealer → ℕ → ℕ → Result (Unit {0}) FrameRefusal
+frame_answer kind s text room =
+    cond s.finished (Err Finished)
+    (cond (takes kind s text)
+    (cond (comes kind s && text_fits (text_before s + text) s.frame_length) (cond (frame_fits kind text room) (Ok tt) (Err OutLength)) (Err Text)) (Err TextLength))
+
 -- what a call for the final frame answers
 abbrev pub final_answer : Sealer → ℕ → ℕ → Result (Unit {0}) FrameRefusal
 final_answer s text room =
@@ -72,7 +89,7 @@ final_answer s text room =
     (cond (text_fits (text_before s + text) s.frame_length) (cond (room == text + 40) (Ok tt) (Err OutLength)) (Err Text)) (Err TextLength))
 
 pub record FinalSealed (s : Sealer) (text : List ℕ) (s' : Sealer) (out : List ℕ) : Type 0 where
-  pub frame : out ≡ final_frame (key_of s.cipher) s.id s.number text
+  pub frame : out ≡ final_frame (key_of s.cipher.key) s.cipher.id s.number text
   pub finished : s'.finished ≡ true
 
 abbrev pub SealsFinal : Sealer → List ℕ → List ℕ → Result (Unit {0}) FrameRefusal → Sealer → List ℕ → Type 0

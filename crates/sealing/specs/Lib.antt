@@ -1,3 +1,4 @@
 pub mod Whole
 pub mod Answers
 pub mod Calls
+pub mod Keys

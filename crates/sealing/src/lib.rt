@@ -3,6 +3,7 @@
 // hold the message. What a sealer wrote call by call, joined, is that message too.
 #![tactic(auto)]
 
+mod framing;
 mod joined;
 mod keys;
 mod message;

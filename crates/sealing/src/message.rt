@@ -1,5 +1,5 @@
 // Whole messages, sealed into lent bytes, and how long they are.
-ghost use Rattle.std.specs.Prelude.{◌≡◌, ℕ, suc, ◌*◌, ◌<◌, ◌≤◌, true, List, [], length, is_ok, if◌then◌else◌};
+ghost use Rattle.std.specs.Prelude.{◌≡◌, ℕ, suc, true, List, [], length, is_ok, if◌then◌else◌};
 ghost use Rattle.gcm.specs.Key.{key_of};
 ghost use Rattle.format.specs.Request.{seal_refusal};
 ghost use Rattle.format.specs.Message.{frames};
@@ -8,32 +8,12 @@ ghost use Rattle.header.specs.Checked.{answer_number, header_refusal, text_fits,
 ghost use Rattle.sealing.specs.Whole.{sealed_message, frames_length};
 ghost use Rattle.sealing.specs.Answers.{seal_number, length_number, LengthTold, MessageLength};
 
-use crate::keys::{prepare, write_start};
-use frames::{seal_final_frame, seal_regular_frame};
-use gcm::Key;
+use crate::framing::Framing;
+use crate::keys::Keys;
+use frames::{FrameKind, KEY_LENGTH, MessageCipher, TAG_LENGTH};
 use header::{
     Checked, CheckedHeader, HeaderRequest, Request, SealRefusal, check, check_header, text_fits,
 };
-
-const KEY_LENGTH: usize = 32;
-
-const TAG_LENGTH: u64 = 16;
-
-// how much longer frames are than their text
-const REGULAR_OVERHEAD: u64 = 32;
-
-const FINAL_OVERHEAD: u64 = 40;
-
-// How long all frames of a text are.
-fn frames_len(text_len: u64, frame_length: u32) -> u64
-    requires some { 0 < frame_length }
-    requires few { text_len ≤ 4294967295 * frame_length }
-    requires short { text_len < 9223372036854775808 }
-    ensures { result ≡ frames_length text_len frame_length }
-{
-    let regular = text_len.saturating_sub(1) / frame_length as u64;
-    text_len + (REGULAR_OVERHEAD * regular + FINAL_OVERHEAD)
-}
 
 // How long the message of so long a text is under a header, whatever its key: both passed their checks.
 fn checked_len(header: HeaderRequest, checked: CheckedHeader, text_len: u64) -> u64
@@ -42,7 +22,11 @@ fn checked_len(header: HeaderRequest, checked: CheckedHeader, text_len: u64) -> 
     requires fits { text_fits text_len header.frame_length ≡ true }
     ensures { (key t : List ℕ) → length t ≡ text_len → result ≡ length (sealed_message (request_with key header.entry t)) }
 {
-    checked.header_len as u64 + TAG_LENGTH + frames_len(text_len, header.frame_length)
+    let framing = Framing {
+        text_len,
+        frame_length: header.frame_length,
+    };
+    (checked.header_len + TAG_LENGTH) as u64 + framing.frames_len()
 }
 
 // How long the message of so long a text is under a header, whatever its key, or why it is refused.
@@ -69,35 +53,33 @@ pub fn sealed_len(request: Request) -> Result<u64, SealRefusal>
 }
 
 // All frames of a text, over all of the lent bytes.
-fn seal_frames(cipher: &Key, id: &[u8; 32], frame_length: u32, text: &[u8], out: &mut [u8])
-    requires some { 0 < frame_length }
-    requires few { length text.now ≤ 4294967295 * frame_length }
-    requires room { length out.old ≡ frames_length (length text.now) frame_length }
-    requires long { length (key_of cipher.now) ≡ 32 }
-    ensures { out.new ≡ frames (suc (length text.now)) (key_of cipher.now) id.now frame_length 1 text.now }
+fn seal_frames(cipher: &MessageCipher, framing: Framing, text: &[u8], out: &mut [u8])
+    requires text { length text.now ≡ framing.text_len }
+    requires room { length out.old ≡ frames_length framing.text_len framing.frame_length }
+    ensures { out.new ≡ frames (suc (length text.now)) (key_of cipher.now.key) cipher.now.id framing.frame_length 1 text.now }
 {
-    let step = frame_length as usize;
-    let mut number = 1u32;
-    let mut from = 0;
-    let mut at = 0;
-    while text.len() - from > step {
-        let end = at + step + 32;
-        let Ok(()) = seal_regular_frame(
-            cipher,
-            id,
-            number,
-            &text[from..from + step],
-            &mut out[at..end],
-        ) else {
-            unreachable()
-        };
-        from += step;
-        at = end;
-        number += 1;
+    let step = framing.frame_length as usize;
+    let sealed = step + FrameKind::Regular.overhead();
+    let regular = framing.regular_frames();
+    // the text is secret, so it is cut by places, and their number is public
+    for done in 0..regular {
+        let from = done as usize * step;
+        let at = done as usize * sealed;
+        let part = &text[from..from + step];
+        cipher
+            .seal_frame(
+                FrameKind::Regular,
+                done + 1,
+                part,
+                &mut out[at..at + sealed],
+            )
+            .unwrap();
     }
-    let Ok(()) = seal_final_frame(cipher, id, number, &text[from..], &mut out[at..]) else {
-        unreachable()
-    };
+    let from = regular as usize * step;
+    let at = regular as usize * sealed;
+    cipher
+        .seal_frame(FrameKind::Final, regular + 1, &text[from..], &mut out[at..])
+        .unwrap();
 }
 
 // The message of a request that isn't refused, over all of the lent bytes.
@@ -107,17 +89,13 @@ fn write_message(request: Request, checked: Checked, out: &mut [u8])
     requires room { length out.old ≡ length (sealed_message (request_of request)) }
     ensures { out.new ≡ sealed_message (request_of request.entry) }
 {
-    let header = request.header;
-    let id = checked.header.id;
-    let mut keys = prepare(checked.key, id);
-    let at = write_start(&keys.cipher, &keys.commitment, header, out);
-    seal_frames(
-        &keys.cipher,
-        &id,
-        header.frame_length,
-        request.text,
-        &mut out[at..],
-    );
+    let framing = Framing {
+        text_len: request.text.len() as u64,
+        frame_length: request.header.frame_length,
+    };
+    let mut keys = Keys::new(checked.key, checked.header.id);
+    let at = keys.write_start(request.header, out);
+    seal_frames(&keys.cipher, framing, request.text, &mut out[at..]);
     keys.cipher.wipe();
 }
 

@@ -1,17 +1,17 @@
 // How far the sealing of a message has come, and why a frame isn't sealed.
 ghost use Rattle.std.specs.Prelude.{◌≡◌, ◌<◌, length};
 
-use gcm::Key;
+use frames::MessageCipher;
 
-// A message that is being sealed; number is that of the next frame.
+// A message that is being sealed; number is that of the next frame. Whether the final one was sealed stands apart: the key is
+// overwritten in place then, and an enum of the two states would move it.
 #[derive(Drop)]
 pub struct Sealer {
-    pub(crate) cipher: Key,
-    pub(crate) id: [u8; 32],
+    pub(crate) cipher: MessageCipher,
     pub(crate) frame_length: u32,
     pub(crate) number: u32,
     pub(crate) finished: bool,
-    ghost long: { length id ≡ 32 },
+    ghost long: { length cipher.id ≡ 32 },
     ghost some: { 0 < frame_length },
     ghost fits: { frame_length < 4294967296 },
     ghost counted: { 0 < number },
@@ -19,7 +19,7 @@ pub struct Sealer {
 }
 
 // the first that applies is told; the sealer and the lent bytes are then as they were
-#[derive(Clone, Copy, Debug, PartialEq)]
+#[derive(Clone, Copy, Debug, PartialEq, Eq)]
 pub enum FrameRefusal {
     // the final frame was sealed already
     Finished,

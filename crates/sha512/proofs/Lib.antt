@@ -1,3 +1,5 @@
+pub mod Table
+pub mod Chunks
 pub mod Schedule
-pub mod Padding
 pub mod Pieces
+pub mod Padding

@@ -1,16 +1,14 @@
--- A block's words, its schedule and its rounds: a step of a loop each.
-use Rattle.std.proofs.Common.{◌≡◌, ℕ, zero, suc, ◌+◌, ◌-◌, ◌*◌, ◌<◌, ◌≤◌, List, [], ◌∷◌, ◌++◌, map, sym, refl, ap, ◌∙◌, ap₂, add-one, arith}
+-- A block's schedule, its rounds, and sums of states: a step of a loop each.
+use Rattle.std.proofs.Common.{◌≡◌, ℕ, suc, ◌+◌, ◌-◌, ◌<◌, ◌≤◌, List, [], ◌∷◌, ◌++◌, sym, refl, ap, ◌∙◌, ap₂, arith}
 use lib.ListN as L
-use Rattle.std.specs.List.{range_with_len}
-use Rattle.std.proofs.lemmas.List.FromFn.{fill_by_all}
-use Rattle.std.proofs.lemmas.List.{get_or-reverse, length-take-le, get_or-take, get_or-drop, length-drop, drop-drop, take_more_set, drop_more}
-use Rattle.octets.specs.Bytes.{take, drop, nth, of_bytes, reversed}
-use Rattle.octets.proofs.Lists.{nth_is, take_is, drop_is, reversed_is, reversed_push}
+use Rattle.std.proofs.lemmas.List.{get_or-reverse, length-take-le, get_or-take, take_more_set, take_more, drop_more, drop_all}
+use Rattle.octets.specs.Bytes.{nth, reversed}
+use Rattle.octets.proofs.Lists.{nth_is, reversed_is, reversed_push}
 use Rattle.sha512.specs.Words.{add, small_sigma0, small_sigma1}
-use Rattle.sha512.specs.Sha512.{block_words, extend_words, round, rounds}
+use Rattle.sha512.specs.Sha512.{extend_words, round, rounds, add_words}
 
 -- the k-th from the end of the first t
-pub nth_back : (xs : List ℕ) (t k m : ℕ) → t ≤ L.length xs → k + m + 1 ≡ t → nth (reversed (L.take t xs)) k ≡ L.get_or xs m 0
+nth_back : (xs : List ℕ) (t k m : ℕ) → t ≤ L.length xs → k + m + 1 ≡ t → nth (reversed (L.take t xs)) k ≡ L.get_or xs m 0
 nth_back xs t k m h e =
     let n : L.length (L.take t xs) ≡ t = length-take-le t xs h in
     let lt : k < L.length (L.take t xs) = omega arith in
@@ -37,33 +35,25 @@ extend_more n t w {p} {q} h l ep eq =
     (ap reversed (take_more_set w t (add (add p (L.get_or w (t - 7) 0)) (add q (L.get_or w (t - 16) 0))) l)
     ∙ reversed_push (L.take t w) (add (add p (L.get_or w (t - 7) 0)) (add q (L.get_or w (t - 16) 0)))))
 
-drop_8 : (i : ℕ) (bs : List ℕ) → drop (8 * i) (drop 8 bs) ≡ drop (8 * suc i) bs
-drop_8 i bs =
-    let e : 8 + 8 * i ≡ 8 * suc i = omega arith in
-    drop_is (8 * i) (drop 8 bs) ∙ ap (L.drop (8 * i)) (drop_is 8 bs) ∙ drop-drop (8 * i) 8 bs ∙ ap (λ (n : ℕ). L.drop n bs) e ∙ sym (drop_is (8 * suc i) bs)
-
-block_words_suc : (i : ℕ) (bs : List ℕ) → block_words (suc i) bs ≡ block_words i bs ++ (of_bytes (take 8 (drop (8 * i) bs)) ∷ [])
-unfolding block_words drop
-block_words_suc zero bs = refl
-block_words_suc (suc i) bs =
-    ap (λ (ws : List ℕ). of_bytes (take 8 bs) ∷ ws)
-    (block_words_suc i (drop 8 bs) ∙ ap (λ (ys : List ℕ). block_words i (drop 8 bs) ++ (of_bytes (take 8 ys) ∷ [])) (drop_8 i bs))
-
-pub block_words_more : (i : ℕ) (bs : List ℕ) → block_words (i + 1) bs ≡ block_words i bs ++ (of_bytes (take 8 (drop (8 * i) bs)) ∷ [])
-block_words_more i bs = ap (λ (n : ℕ). block_words n bs) (add-one i) ∙ block_words_suc i bs
-
--- eight bytes from a place on
-pub eight_at : (bs : List ℕ) (at : ℕ) → at + 8 ≤ L.length bs → take 8 (drop at bs) ≡ map (λ (k : ℕ). L.get_or bs (at + k) 0) (range_with_len 0 8)
-eight_at bs at h =
-    let n : 8 ≤ L.length (L.drop at bs) = omega (arith, length-drop at bs) in
-    take_is 8 (drop at bs) ∙ ap (L.take 8) (drop_is at bs)
-    ∙ fill_by_all (λ (k : ℕ). L.get_or bs (at + k) 0) (L.take 8 (L.drop at bs)) 8 0 (length-take-le 8 (L.drop at bs) n)
-    (λ k lt. get_or-take 8 (L.drop at bs) k 0 lt ∙ get_or-drop at bs k 0)
-
-pub eight : (xs : List ℕ) → L.length xs ≡ 8 → xs ≡ map (λ (k : ℕ). L.get_or xs k 0) (range_with_len 0 8)
-eight xs h = fill_by_all (λ (k : ℕ). L.get_or xs k 0) xs 8 0 h (λ k _. refl)
-
 pub rounds_more : (s ks ws : List ℕ) (i : ℕ) → i < L.length ks → i < L.length ws
     → rounds s (L.drop i ks) (L.drop i ws) ≡ rounds (round s (L.get_or ks i 0) (L.get_or ws i 0)) (L.drop (i + 1) ks) (L.drop (i + 1) ws)
 unfolding rounds
 rounds_more s ks ws i hk hw = ap₂ (λ (x y : List ℕ). rounds s x y) (drop_more ks i 0 hk) (drop_more ws i 0 hw)
+
+pub rounds_done : (s ks ws : List ℕ) (i : ℕ) → L.length ks ≤ i → rounds s (L.drop i ks) (L.drop i ws) ≡ s
+unfolding rounds
+rounds_done s ks ws i h = ap (λ (xs : List ℕ). rounds s xs (L.drop i ws)) (drop_all i ks h)
+
+add_words_push : (xs ys : List ℕ) (x y : ℕ) → L.length xs ≡ L.length ys → add_words (xs ++ (x ∷ [])) (ys ++ (y ∷ [])) ≡ add_words xs ys ++ (add x y ∷ [])
+unfolding add_words
+add_words_push [] [] x y e = refl
+add_words_push [] (b ∷ bs) x y e = absurd (omega arith)
+add_words_push (a ∷ as') [] x y e = absurd (omega arith)
+add_words_push (a ∷ as') (b ∷ bs) x y e = ap (λ (zs : List ℕ). add a b ∷ zs) (add_words_push as' bs x y (omega arith))
+
+pub add_words_more : (xs ys out : List ℕ) (i : ℕ) → i < L.length xs → i < L.length ys → i < L.length out → L.take i out ≡ add_words (L.take i xs) (L.take i ys)
+    → L.take (i + 1) (L.set out i (add (L.get_or xs i 0) (L.get_or ys i 0))) ≡ add_words (L.take (i + 1) xs) (L.take (i + 1) ys)
+add_words_more xs ys out i hx hy ho e =
+    let l : L.length (L.take i xs) ≡ L.length (L.take i ys) = length-take-le i xs (omega arith) ∙ sym (length-take-le i ys (omega arith)) in
+    take_more_set out i _ ho ∙ ap (λ zs. zs ++ (add (L.get_or xs i 0) (L.get_or ys i 0) ∷ [])) e
+    ∙ sym (ap₂ add_words (take_more xs i 0 hx) (take_more ys i 0 hy) ∙ add_words_push (L.take i xs) (L.take i ys) (L.get_or xs i 0) (L.get_or ys i 0) l)

@@ -1,4 +1,4 @@
-// The constants of SHA-512, each behind one small read.
+// The constants of SHA-512, each behind one small read, so that no other function reads a table.
 ghost use Rattle.std.specs.Prelude.{◌≡◌, ◌<◌};
 ghost use Rattle.octets.specs.Bytes.{nth};
 ghost use Rattle.sha512.specs.Constants.{constants, initial_state};
@@ -99,6 +99,7 @@ const INITIAL_STATE: [u64; 8] = [
     0x5be0_cd19_137e_2179,
 ];
 
+#[tactic(auto, using(octets::proofs::Lists::nth_is, crate::proofs::Table::constants_are))]
 pub(crate) fn round_constant(i: usize) -> u64
     requires { i < 80 }
     ensures { result ≡ nth constants i }
@@ -106,6 +107,7 @@ pub(crate) fn round_constant(i: usize) -> u64
     ROUND_CONSTANTS[i]
 }
 
+#[tactic(auto, unfolding(crate::specs::Constants::initial_state))]
 pub(crate) fn initial_state() -> [u64; 8]
     ensures { result ≡ initial_state }
 {

@@ -1,4 +1,5 @@
 // The functions of SHA-512 on words.
+// The standard's four sums keep their names: shared ones would take three numbers at each call.
 ghost use Rattle.std.specs.Prelude.{◌≡◌};
 ghost use Rattle.sha512.specs.Words.{big_sigma0, big_sigma1, small_sigma0, small_sigma1, choose, majority};
 

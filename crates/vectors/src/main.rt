@@ -9,83 +9,46 @@ mod words;
 
 use std::alloc::Global;
 use std::fs;
+use words::{Word, Words};
 
-#[derive(Clone, Copy)]
-enum Suite {
-    Sha512,
-    Hmac,
-    Hkdf,
-    Aes,
-    Gcm,
-    Header,
-    Open,
-    Seal,
-    Length,
+// Whether the case on this line comes out as expected.
+fn outcome<F: Fn(&mut Words) -> anyhow::Result<bool>>(
+    heap: Global,
+    line: &str,
+    case: &F,
+) -> anyhow::Result<bool>
+    requires { F.IsAlwaysCallable case.now }
+{
+    let words = Word::all(heap, line)?;
+    case(&mut Words::of(heap, words.as_slice()))
 }
 
-impl Suite {
-    fn file(self) -> &'static str {
-        match self {
-            Suite::Sha512 => "sha512.txt",
-            Suite::Hmac => "hmac512.txt",
-            Suite::Hkdf => "hkdf512.txt",
-            Suite::Aes => "aes256.txt",
-            Suite::Gcm => "gcm.txt",
-            Suite::Header => "header.txt",
-            Suite::Open => "open.txt",
-            Suite::Seal => "seal.txt",
-            Suite::Length => "length.txt",
-        }
-    }
-
-    // Whether the case on this line comes out as expected.
-    fn case(self, heap: Global, line: &str) -> anyhow::Result<bool> {
-        match self {
-            Suite::Sha512 => hashes::sha512_case(heap, line),
-            Suite::Hmac => hashes::hmac_case(heap, line),
-            Suite::Hkdf => hashes::hkdf_case(heap, line),
-            Suite::Aes => ciphers::aes_case(heap, line),
-            Suite::Gcm => ciphers::gcm_case(heap, line),
-            Suite::Header => messages::header_case(heap, line),
-            Suite::Open => messages::open_case(heap, line),
-            Suite::Seal => messages::seal_case(heap, line),
-            Suite::Length => messages::length_case(heap, line),
-        }
-    }
-}
-
-fn count(suite: Suite, heap: Global, text: &str) -> anyhow::Result<(u32, u32)> {
-    let mut right = 0u32;
-    let mut all = 0u32;
-    for line in text.lines() {
-        if suite.case(heap, line)? {
-            right = right.saturating_add(1);
-        }
-        all = all.saturating_add(1);
-    }
-    Ok((right, all))
-}
-
-fn run(rt: &HostRuntime, suite: Suite) -> anyhow::Result<()> {
-    let name = suite.file();
+fn run<F: Fn(&mut Words) -> anyhow::Result<bool>>(
+    rt: &HostRuntime,
+    name: &str,
+    case: F,
+) -> anyhow::Result<()>
+    requires { F.IsAlwaysCallable case }
+{
+    let heap = rt.alloc();
     let text = fs::read_to_string(rt, name)?;
-    let (right, all) = count(suite, rt.alloc(), text.as_str())?;
-    println!(rt; "{name}: {right} of {all}")?;
+    let outcomes: Vec<bool> = text
+        .lines()
+        .map(|line| outcome(heap, line, &case))
+        .try_collect(heap)?;
+    let right = outcomes.iter().filter(|right| **right).count();
+    println!(rt; "{name}: {right} of {}", outcomes.len())?;
     Ok(())
 }
 
-fn all(rt: &HostRuntime) -> anyhow::Result<()> {
-    run(rt, Suite::Sha512)?;
-    run(rt, Suite::Hmac)?;
-    run(rt, Suite::Hkdf)?;
-    run(rt, Suite::Aes)?;
-    run(rt, Suite::Gcm)?;
-    run(rt, Suite::Header)?;
-    run(rt, Suite::Open)?;
-    run(rt, Suite::Seal)?;
-    run(rt, Suite::Length)
-}
-
 fn main(rt: HostRuntime) -> anyhow::Result<()> {
-    all(&rt)
+    run(&rt, "sha512.txt", hashes::sha512_case)?;
+    run(&rt, "hmac512.txt", hashes::hmac_case)?;
+    run(&rt, "hkdf512.txt", hashes::hkdf_case)?;
+    run(&rt, "aes256.txt", ciphers::aes_case)?;
+    run(&rt, "gcm.txt", ciphers::gcm_case)?;
+    run(&rt, "header.txt", messages::header_case)?;
+    run(&rt, "open.txt", messages::open_case)?;
+    run(&rt, "seal.txt", messages::seal_case)?;
+    run(&rt, "length.txt", messages::length_case)
 }

@@ -1,89 +1,164 @@
-// The words of a line, one after the other.
-ghost use Rattle.std.specs.Prelude.{◌<◌, IfOk};
+// The words of a line, one after the other, and what they say.
+ghost use Rattle.std.specs.Prelude.{◌<◌, IfSome};
 
-use anyhow::anyhow;
-use std::alloc::Global;
+use anyhow::Context;
+use std::alloc::{AllocError, Global};
+use std::slice;
 
+// A word, and the bytes that it says: hexadecimal digits, or `-` for none.
 #[derive(Drop)]
-pub struct Words<'a> {
-    rest: Option<&'a str>,
+pub struct Word<'t> {
+    text: &'t str,
+    bytes: Option<Vec<u8>>,
 }
 
-impl<'a> Words<'a> {
-    pub fn of(line: &'a str) -> Words<'a> {
-        Words { rest: Some(line) }
+impl<'t> Word<'t> {
+    fn of(heap: Global, text: &'t str) -> Result<Word<'t>, AllocError> {
+        let bytes = unhex(heap, text)?;
+        Ok(Word { text, bytes })
     }
 
-    pub fn next(&mut self) -> anyhow::Result<&'a str> {
-        let Some(rest) = self.rest else {
-            return Err(anyhow!("a word is missing"));
+    // Those of a whole line.
+    pub fn all(heap: Global, line: &'t str) -> Result<Vec<Word<'t>>, AllocError> {
+        line.split(' ')
+            .map(|text| Word::of(heap, text))
+            .try_collect(heap)
+    }
+}
+
+// The words that are left of a line.
+#[derive(Drop)]
+pub struct Words<'w> {
+    pub heap: Global,
+    left: slice::Iter<'w, Word<'w>>,
+}
+
+impl<'w> Words<'w> {
+    pub fn of(heap: Global, words: &'w [Word<'w>]) -> Words<'w> {
+        Words {
+            heap,
+            left: words.iter(),
+        }
+    }
+
+    fn next(&mut self) -> anyhow::Result<&'w Word<'w>> {
+        self.left.next().context("a word is missing")
+    }
+
+    pub fn read<T: FromWords<'w>>(&mut self) -> anyhow::Result<T> {
+        T::from_words(self)
+    }
+}
+
+// What the next word says, or several words one after the other.
+pub trait FromWords<'w>: Sized + Drop {
+    fn from_words(words: &mut Words<'w>) -> anyhow::Result<Self>;
+}
+
+impl<'w> FromWords<'w> for &'w str {
+    fn from_words(words: &mut Words<'w>) -> anyhow::Result<&'w str> {
+        Ok(words.next()?.text)
+    }
+}
+
+impl<'w> FromWords<'w> for u64 {
+    fn from_words(words: &mut Words<'w>) -> anyhow::Result<u64> {
+        Ok(words.next()?.text.parse::<u64>()?)
+    }
+}
+
+impl<'w> FromWords<'w> for u32 {
+    fn from_words(words: &mut Words<'w>) -> anyhow::Result<u32> {
+        Ok(u32::try_from(words.read::<u64>()?)?)
+    }
+}
+
+impl<'w> FromWords<'w> for usize {
+    fn from_words(words: &mut Words<'w>) -> anyhow::Result<usize> {
+        Ok(usize::try_from(words.read::<u64>()?)?)
+    }
+}
+
+impl<'w> FromWords<'w> for &'w [u8] {
+    fn from_words(words: &mut Words<'w>) -> anyhow::Result<&'w [u8]> {
+        let word = words.next()?;
+        let why = if word.text.len() % 2 == 0 {
+            "not a hexadecimal digit"
+        } else {
+            "half a byte"
         };
-        match rest.split_once(' ') {
-            Some((word, more)) => {
-                self.rest = Some(more);
-                Ok(word)
-            }
-            None => {
-                self.rest = None;
-                Ok(rest)
-            }
-        }
-    }
-
-    pub fn number(&mut self) -> anyhow::Result<u64> {
-        Ok(self.next()?.parse::<u64>()?)
-    }
-
-    pub fn bytes(&mut self, heap: Global) -> anyhow::Result<Vec<u8>> {
-        unhex(heap, self.next()?.as_bytes())
-    }
-
-    // Whether the next word says these bytes.
-    pub fn are(&mut self, heap: Global, bytes: &[u8]) -> anyhow::Result<bool> {
-        let said = self.bytes(heap)?;
-        Ok(said.as_slice() == bytes)
-    }
-
-    // Whether the next word is this number.
-    pub fn is(&mut self, number: u64) -> anyhow::Result<bool> {
-        Ok(self.number()? == number)
-    }
-
-    // Bytes of a length that is known: keys, nonces, tags.
-    pub fn fixed<const N: usize>(&mut self, heap: Global) -> anyhow::Result<[u8; N]> {
-        let bytes = self.bytes(heap)?;
-        if bytes.len() != N {
-            return Err(anyhow!("bytes of another length"));
-        }
-        let mut fixed = [0u8; N];
-        fixed.copy_from_slice(bytes.as_slice());
-        Ok(fixed)
+        word.bytes.as_deref().context(why)
     }
 }
 
-// Hexadecimal digits as bytes; none for `-`.
-fn unhex(heap: Global, digits: &[u8]) -> anyhow::Result<Vec<u8>> {
-    let mut bytes = Vec::new(heap);
-    if digits == b"-".as_slice() {
-        return Ok(bytes);
+// Bytes of a length that is known: keys, nonces, tags.
+impl<'w, const N: usize> FromWords<'w> for &'w [u8; N] {
+    fn from_words(words: &mut Words<'w>) -> anyhow::Result<&'w [u8; N]> {
+        <&[u8; N]>::try_from(words.read::<&[u8]>()?)
+            .ok()
+            .context("bytes of another length")
     }
-    if digits.len() % 2 != 0 {
-        return Err(anyhow!("half a byte"));
-    }
-    for i in 0..digits.len() / 2 {
-        let high = nibble(digits[2 * i])?;
-        let low = nibble(digits[2 * i + 1])?;
-        bytes.push(high * 16 + low)?;
-    }
-    Ok(bytes)
 }
 
-fn nibble(digit: u8) -> anyhow::Result<u8>
-    ensures value { IfOk result (λ n. n < 16) }
+// Several words at once: one impl for each number of them, since no tuple is of any length.
+impl<'w, A: FromWords<'w>, B: FromWords<'w>> FromWords<'w> for (A, B) {
+    fn from_words(words: &mut Words<'w>) -> anyhow::Result<(A, B)> {
+        Ok((words.read()?, words.read()?))
+    }
+}
+
+impl<'w, A: FromWords<'w>, B: FromWords<'w>, C: FromWords<'w>> FromWords<'w> for (A, B, C) {
+    fn from_words(words: &mut Words<'w>) -> anyhow::Result<(A, B, C)> {
+        Ok((words.read()?, words.read()?, words.read()?))
+    }
+}
+
+impl<'w, A, B, C, D> FromWords<'w> for (A, B, C, D)
+where
+    A: FromWords<'w>,
+    B: FromWords<'w>,
+    C: FromWords<'w>,
+    D: FromWords<'w>,
+{
+    fn from_words(words: &mut Words<'w>) -> anyhow::Result<(A, B, C, D)> {
+        Ok((words.read()?, words.read()?, words.read()?, words.read()?))
+    }
+}
+
+// As many as the next word says.
+impl<'w, T: FromWords<'w>> FromWords<'w> for Vec<T> {
+    fn from_words(words: &mut Words<'w>) -> anyhow::Result<Vec<T>> {
+        let mut list = Vec::new(words.heap);
+        // A loop: a closure that reads words isn't proved.
+        for _ in 0..words.read::<u64>()? {
+            list.push(words.read()?)?;
+        }
+        Ok(list)
+    }
+}
+
+// The bytes of hexadecimal digits, none for `-`; nothing for another word.
+fn unhex(heap: Global, word: &str) -> Result<Option<Vec<u8>>, AllocError> {
+    if word == "-" {
+        return Ok(Some(Vec::new(heap)));
+    }
+    let (pairs, []) = word.as_bytes().as_chunks::<2>() else {
+        return Ok(None);
+    };
+    pairs.iter().map(|pair| unhex_byte(*pair)).collect(heap)
+}
+
+fn unhex_byte([high, low]: [u8; 2]) -> Option<u8> {
+    Some(nibble(high)? * 16 + nibble(low)?)
+}
+
+// Small digits alone, where the library's `to_digit` takes capital ones too.
+fn nibble(digit: u8) -> Option<u8>
+    ensures value { IfSome result (λ n. n < 16) }
 {
     match digit {
-        b'0'..=b'9' => Ok(digit - b'0'),
-        b'a'..=b'f' => Ok(digit - b'a' + 10),
-        _ => Err(anyhow!("not a hexadecimal digit")),
+        b'0'..=b'9' => Some(digit - b'0'),
+        b'a'..=b'f' => Some(digit - b'a' + 10),
+        _ => None,
     }
 }

@@ -8,7 +8,7 @@ ghost use Rattle.ghash.specs.Table.{hash_key_of};
 
 use crate::element::Element;
 use crate::field::times_x;
-use crate::quad::{Quad, add_masked, join, split};
+use crate::quad::Quad;
 use crate::table::Table;
 
 impl Table {
@@ -20,8 +20,9 @@ impl Table {
         let mut c = [0u32; 128];
         let mut d = [0u32; 128];
         let mut v = h;
+        // By place, into four arrays at once.
         for i in 0..128usize {
-            let q = split(v);
+            let q = Quad::from(v);
             a[i] = q.a;
             b[i] = q.b;
             c[i] = q.c;
@@ -35,21 +36,11 @@ impl Table {
     pub fn times(&self, x: Element) -> Element
         ensures value { value result ≡ product (value x) (hash_key_of self.now) }
     {
-        let q = split(x);
-        let sum_a = self.add_rows(
-            q.a,
-            0,
-            Quad {
-                a: 0,
-                b: 0,
-                c: 0,
-                d: 0,
-            },
-        );
+        let q = Quad::from(x);
+        let sum_a = self.add_rows(q.a, 0, Quad::ZERO);
         let sum_b = self.add_rows(q.b, 32, sum_a);
         let sum_c = self.add_rows(q.c, 64, sum_b);
-        let sum_d = self.add_rows(q.d, 96, sum_c);
-        join(sum_d)
+        Element::from(self.add_rows(q.d, 96, sum_c))
     }
 
     fn row(&self, i: usize) -> Quad
@@ -70,9 +61,9 @@ impl Table {
         ensures { quad_value result ≡ product_steps 32 word (times_power from (hash_key_of self.now)) (quad_value sum) }
     {
         let mut s = sum;
+        // By place: every row is read, whatever the word, which is secret.
         for j in 0..32u32 {
-            let row = self.row(from + j as usize);
-            s = add_masked(s, row, word, 31 - j);
+            s = s.add_masked(self.row(from + j as usize), (word >> (31 - j)) & 1);
         }
         s
     }

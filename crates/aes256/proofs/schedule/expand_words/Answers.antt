@@ -1,4 +1,4 @@
-use Rattle.std.proofs.Common.{◌≡◌, ℕ, suc, ◌+◌, ◌-◌, List, [], ◌∷◌, ◌++◌, length, sym, refl, ap, ◌∙◌, append-nil, arith, rules}
+use Rattle.std.proofs.Common.{◌≡◌, ℕ, suc, ◌+◌, ◌-◌, List, [], ◌∷◌, ◌++◌, length, sym, ap, ◌∙◌, append-nil, arith, rules}
 use Rattle.std.proofs.lemmas.List.{length-set, take-set-le, take_all}
 use Rattle.octets.proofs.Lists.{take_is}
 use Rattle.aes256.specs.Aes.{expand_words, joined}
@@ -6,9 +6,6 @@ use Rattle.aes256.specs.Columns.{words_bytes}
 use Rattle.aes256.specs.Schedule.{words_upto}
 use Rattle.aes256.proofs.ScheduleWords.{upto_set, expand_more, key_words_are, joined_upto}
 use Rattle.aes256.proofs.schedule.expand_words.Goals as goal
-
-pub loop-i-init : goal.loop-i-init
-loop-i-init c = (search rules, refl, refl)
 
 pub loop-i-preserved : goal.loop-i-preserved
 loop-i-preserved c =

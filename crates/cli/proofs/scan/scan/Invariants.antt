@@ -1,6 +1,7 @@
 use Rattle.std.proofs.Common.{◌≡◌, map, drop, vec_items}
 use Rattle.cli.specs.declared.scan.Expects.TheVariants.{Word}
-use Rattle.cli.specs.Scan.{scan_from, words_of, item}
+use Rattle.cli.specs.Line.{item}
+use Rattle.cli.specs.Scan.{scan_from, words_of}
 use Rattle.cli.proofs.Words.{items_before}
 use Rattle.cli.proofs.scan.scan.Given as goal
 

@@ -1,18 +1,18 @@
-use Rattle.std.proofs.Common.{[], ◌∷◌, sym, ap, ◌∙◌}
-use Rattle.octets.proofs.Cuts.{cut_parts, and_then_some, and_then_none}
-use Rattle.frames.specs.Next.{the_frame}
+use Rattle.std.proofs.Common.{ap, ◌∙◌, arith}
+use Rattle.octets.proofs.Cuts.{and_then_some, and_then_none, cut_some, cut_none}
+use Rattle.frames.specs.Next.{next_frame}
 use Rattle.frames.proofs.next.read_body.Goals as goal
 
-pub returns-in_default : goal.returns-in_default
-returns-in_default c = and_then_none _ _ c.in_default.ensures.value
+pub returns-in_err-ciphertext : goal.returns-in_err-ciphertext
+returns-in_err-ciphertext c = ap next_frame c.from_residual.ensures ∙ and_then_none _ _ (cut_none _ _ c.in_err-ciphertext.ensures.cases)
 
-pub returns-in_default-cut : goal.returns-in_default-cut
-returns-in_default-cut c = and_then_none _ _ c.in_default-cut.ensures.value ∙ and_then_some _ _ _ c.in-Some.ensures.value
-
-pub copy_from_slice-requires : goal.copy_from_slice-requires
-copy_from_slice-requires c = sym (cut_parts 16 _ _ _ c.in-Some-cut.ensures.value).long
+pub returns-in_err-tag : goal.returns-in_err-tag
+returns-in_err-tag c =
+    let o = c.in_ok-ciphertext.ensures.cases in
+    ap next_frame c.from_residual-in_err-tag.ensures ∙ and_then_none _ _ (cut_none 16 _ c.in_err-tag.ensures.cases) ∙ and_then_some _ _ _ (cut_some _ _ _ _ o.0 o.1 o.2)
 
 pub returns : goal.returns
 returns c =
-    ap (λ t. the_frame c.args.last c.in-Some.ciphertext.now t c.in-Some-cut.rest.now ∷ []) c.copy_from_slice.ensures.after
-    ∙ and_then_some _ _ _ c.in-Some-cut.ensures.value ∙ and_then_some _ _ _ c.in-Some.ensures.value
+    let o = c.in_ok-ciphertext.ensures.cases in
+    let t = c.in_ok-tag.ensures.cases in
+    and_then_some _ _ _ (cut_some 16 _ _ _ (omega (arith, t.2)) t.0 t.1) ∙ and_then_some _ _ _ (cut_some _ _ _ _ o.0 o.1 o.2)

@@ -1,13 +1,9 @@
-use Rattle.std.proofs.Common.{replicate, ◌∙◌, arith}
-use Rattle.std.proofs.lemmas.List.Edits.{paste_none}
-use Rattle.ghash.proofs.Sixteen.{filled_more, filled_all}
+use Rattle.std.proofs.Common.{◌-◌, ◌++◌, length, sym, ◌∙◌, ap₂}
+use Rattle.std.proofs.lemmas.List.{drop-replicate}
+use Rattle.octets.proofs.Lists.{repeat_is}
 use Rattle.ghash.proofs.hash.filled.Goals as goal
 
-pub loop-i-init : goal.loop-i-init
-loop-i-init c = paste_none (replicate 16 0) 0 c.args.bytes.now
-
-pub loop-i-preserved : goal.loop-i-preserved
-loop-i-preserved c = filled_more c.args.bytes.now c.loop-i.i c.loop-i.block c.requires c.loop-i-test.true c.loop-i.invariant
-
 pub returns : goal.returns
-returns c = c.loop-i.invariant ∙ filled_all c.args.bytes.now c.loop-i.i c.requires (omega arith)
+returns c =
+    let n = length c.args.bytes.now in
+    ap₂ (λ xs ys. xs ++ ys) c.copy_from_slice.ensures.after (drop-replicate n 16 0 ∙ sym (repeat_is (16 - n) 0))

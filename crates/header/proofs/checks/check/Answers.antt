@@ -1,16 +1,10 @@
-use Rattle.std.proofs.Common.{rules}
 use Rattle.std.proofs.lemmas.Result.{err_from_is_err_and}
 use Rattle.std.proofs.lemmas.Bool.{eqb-true}
 use Rattle.octets.specs.Bits.{pick}
-use Rattle.format.specs.Request.{end_marker}
 use Rattle.header.specs.Models.{request_of}
 use Rattle.header.proofs.Lengths.{some_cond}
 use Rattle.header.proofs.Refusals.{refused_by_header, refused_by_text, numbers_positive}
 use Rattle.header.proofs.checks.check.Goals as goal
-
-pub returns-in_default : goal.returns-in_default
-unfolding pick end_marker
-returns-in_default c = search rules
 
 pub returns-in_err-header : goal.returns-in_err-header
 returns-in_err-header c =

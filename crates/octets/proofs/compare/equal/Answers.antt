@@ -1,5 +1,5 @@
-use Rattle.std.proofs.Common.{◌∙◌, arith}
-use Rattle.octets.proofs.Compared.{eq_none, eq_more, eq_all, eq_lengths}
+use Rattle.std.proofs.Common.{arith}
+use Rattle.octets.proofs.Compared.{eq_none, eq_more, eq_lengths}
 use Rattle.octets.proofs.compare.equal.Goals as goal
 
 pub returns-then-a-b : goal.returns-then-a-b
@@ -10,6 +10,3 @@ loop-i-init c = eq_none c.args.a.now c.args.b.now
 
 pub loop-i-preserved : goal.loop-i-preserved
 loop-i-preserved c = eq_more c.args.a.now c.args.b.now c.loop-i.i c.loop-i.differ (omega arith) (omega arith) c.loop-i.invariant
-
-pub returns : goal.returns
-returns c = record { value = c.loop-i.invariant ∙ eq_all c.args.a.now c.args.b.now c.loop-i.i (omega arith) (omega arith) }

@@ -20,12 +20,12 @@ open_frames-opened-requires c =
     let s = (split c.args.message.now (read_header_in c.in-Some.read) (λ i. omega (arith, c.type_inv.message i)) c.in-Some.ensures.value).sum in
     omega arith
 
-pub returns-in_err-len : goal.returns-in_err-len
-returns-in_err-len c =
-    let p = err_from_is_err_and c.from_residual-in_err-len.result c.from_residual-in_err-len.ensures.1 in
+pub returns-in_err-opened : goal.returns-in_err-opened
+returns-in_err-opened c =
+    let p = err_from_is_err_and c.from_residual-in_err-opened.result c.from_residual-in_err-opened.ensures.1 in
     rw (p.1, p.2) (record {
       value =
-          c.in_err-len.ensures.value (header_in c.in-Some.read.header) c.in_ok-unlocked.ensures.0 ∙ c.in_ok-unlocked.ensures.1 c.in-Some.read.rest.now
+          c.in_err-opened.ensures.value (header_in c.in-Some.read.header) c.in_ok-unlocked.ensures.0 ∙ c.in_ok-unlocked.ensures.1 c.in-Some.read.rest.now
           ∙ opening_some c.args.key.now c.args.message.now (read_header_in c.in-Some.read) c.in-Some.ensures.value;
       within = omega arith;
     })
@@ -33,7 +33,7 @@ returns-in_err-len c =
 pub returns : goal.returns
 returns c = record {
   value =
-      c.in_ok-len.ensures.value (header_in c.in-Some.read.header) c.in_ok-unlocked.ensures.0 ∙ c.in_ok-unlocked.ensures.1 c.in-Some.read.rest.now
+      c.in_ok-opened.ensures.value (header_in c.in-Some.read.header) c.in_ok-unlocked.ensures.0 ∙ c.in_ok-unlocked.ensures.1 c.in-Some.read.rest.now
       ∙ opening_some c.args.key.now c.args.message.now (read_header_in c.in-Some.read) c.in-Some.ensures.value;
-  within = c.in_ok-len.ensures.within;
+  within = c.in_ok-opened.ensures.within;
 }

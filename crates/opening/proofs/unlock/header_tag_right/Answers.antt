@@ -17,4 +17,4 @@ pub returns : goal.returns
 returns c =
     let s = split c.args.bytes.now (read_header_in c.args.read) (λ i. omega (arith, c.type_inv.bytes i)) c.requires in
     c.equal.ensures.value
-    ∙ ap (λ l. bytes_eq l c.args.read.tag.now) (c.header_tag-tag.ensures.value ∙ ap (λ l. header_tag (key_of c.args.key.now) l) (s.front _ (sub-zero _)))
+    ∙ ap (λ l. bytes_eq l c.args.read.tag.now) (c.header_tag-tag.ensures.value ∙ ap (λ l. header_tag (key_of c.args.cipher.now.key) l) (s.front _ (sub-zero _)))

@@ -1,6 +1,7 @@
-use Rattle.std.proofs.Common.{◌+◌, ◌-◌, ◌≤◌, [], length, take, sym, ◌∙◌, arith}
+use Rattle.std.proofs.Common.{ap, ◌+◌, ◌-◌, ◌≤◌, [], length, take, sym, ◌∙◌, arith}
 use Rattle.octets.proofs.Bits.{pick_true, pick_false}
 use Rattle.gcm.specs.Key.{key_of}
+use Rattle.frames.specs.Kind.{is_final}
 use Rattle.frames.specs.Next.{frame_of}
 use Rattle.opening.proofs.Steps.{step_none, step_wrong, text_found, text_lacks, taken, fits, part_long, going_more, going_final}
 use Rattle.opening.proofs.walk.open_frames.Goals as goal
@@ -15,13 +16,13 @@ returns-then-is_empty c = record {
   value = λ h m.
       sym (pick_true _ _ _ (sym c.if-is_empty.ensures))
       ∙ going_final c.args.unlocked.now c.args.bytes.now c.frames.out c.frames.rest.now c.open_frame.new.out c.frames.number c.frames.at (frame_of c.in-Some.frame) c.frames.invariant c.in-Some.ensures.value (c.frames.at + length c.in-Some.frame.ciphertext.now - c.frames.at) (c.frames.at + length c.in-Some.frame.ciphertext.now)
-      (text_found (key_of c.args.unlocked.now.key) c.args.unlocked.now.id c.frames.number (frame_of c.in-Some.frame) _ c.open_frame.new.out c.if-not-open_frame.ensures.value (part_long c.args.unlocked.now c.args.bytes.now c.frames.out c.frames.rest.now [] c.frames.number c.frames.at (frame_of c.in-Some.frame) c.frames.invariant c.in-Some.ensures.value))
-      c.if-frame.true (omega arith) h m;
+      (text_found (key_of c.args.unlocked.now.cipher.key) c.args.unlocked.now.cipher.id c.frames.number (frame_of c.in-Some.frame) _ c.open_frame.new.out c.in-Ok.ensures.value (part_long c.args.unlocked.now c.args.bytes.now c.frames.out c.frames.rest.now [] c.frames.number c.frames.at (frame_of c.in-Some.frame) c.frames.invariant c.in-Some.ensures.value))
+      (ap is_final c.in-Final.is) (omega arith) h m;
   within = omega (arith, fits c.args.unlocked.now c.args.bytes.now c.frames.out c.frames.rest.now [] c.frames.number c.frames.at (frame_of c.in-Some.frame) c.frames.invariant c.in-Some.ensures.value);
 }
 
 pub overflow_add-number : goal.overflow_add-number
-overflow_add-number c = omega (arith, (taken c.args.unlocked.now c.args.bytes.now c.frames.out c.frames.rest.now [] c.frames.number c.frames.at (frame_of c.in-Some.frame) c.frames.invariant c.in-Some.ensures.value).below c.if-frame.false)
+overflow_add-number c = omega (arith, (taken c.args.unlocked.now c.args.bytes.now c.frames.out c.frames.rest.now [] c.frames.number c.frames.at (frame_of c.in-Some.frame) c.frames.invariant c.in-Some.ensures.value).below (ap is_final c.in-Regular.is))
 
 pub frames-smaller : goal.frames-smaller
 frames-smaller c = omega (arith, (taken c.args.unlocked.now c.args.bytes.now c.frames.out c.frames.rest.now [] c.frames.number c.frames.at (frame_of c.in-Some.frame) c.frames.invariant c.in-Some.ensures.value).total)
@@ -29,8 +30,8 @@ frames-smaller c = omega (arith, (taken c.args.unlocked.now c.args.bytes.now c.f
 pub frames-preserved : goal.frames-preserved
 frames-preserved c =
     going_more c.args.unlocked.now c.args.bytes.now c.frames.out c.frames.rest.now c.open_frame.new.out c.frames.number c.frames.at (frame_of c.in-Some.frame) c.frames.invariant c.in-Some.ensures.value _ _
-    (text_found (key_of c.args.unlocked.now.key) c.args.unlocked.now.id c.frames.number (frame_of c.in-Some.frame) _ c.open_frame.new.out c.if-not-open_frame.ensures.value (part_long c.args.unlocked.now c.args.bytes.now c.frames.out c.frames.rest.now [] c.frames.number c.frames.at (frame_of c.in-Some.frame) c.frames.invariant c.in-Some.ensures.value))
-    c.if-frame.false (omega arith) (omega arith) (omega arith)
+    (text_found (key_of c.args.unlocked.now.cipher.key) c.args.unlocked.now.cipher.id c.frames.number (frame_of c.in-Some.frame) _ c.open_frame.new.out c.in-Ok.ensures.value (part_long c.args.unlocked.now c.args.bytes.now c.frames.out c.frames.rest.now [] c.frames.number c.frames.at (frame_of c.in-Some.frame) c.frames.invariant c.in-Some.ensures.value))
+    (ap is_final c.in-Regular.is) (omega arith) (omega arith) (omega arith)
 
 pub returns-in_default : goal.returns-in_default
 returns-in_default c = record {
@@ -38,11 +39,11 @@ returns-in_default c = record {
   within = omega arith;
 }
 
-pub returns-then-not-open_frame : goal.returns-then-not-open_frame
-returns-then-not-open_frame c = record {
+pub returns-in_default-open_frame : goal.returns-in_default-open_frame
+returns-in_default-open_frame c = record {
   value = λ h m.
       step_wrong c.args.unlocked.now h m c.frames.number (take c.frames.at c.frames.out) c.frames.rest.now (frame_of c.in-Some.frame) c.in-Some.ensures.value
-      (text_lacks (key_of c.args.unlocked.now.key) c.args.unlocked.now.id c.frames.number (frame_of c.in-Some.frame) _ c.open_frame.new.out c.if-not-open_frame.ensures.value (part_long c.args.unlocked.now c.args.bytes.now c.frames.out c.frames.rest.now [] c.frames.number c.frames.at (frame_of c.in-Some.frame) c.frames.invariant c.in-Some.ensures.value))
+      (text_lacks (key_of c.args.unlocked.now.cipher.key) c.args.unlocked.now.cipher.id c.frames.number (frame_of c.in-Some.frame) _ c.open_frame.new.out c.in_default-open_frame.ensures.value (part_long c.args.unlocked.now c.args.bytes.now c.frames.out c.frames.rest.now [] c.frames.number c.frames.at (frame_of c.in-Some.frame) c.frames.invariant c.in-Some.ensures.value))
       ∙ c.frames.invariant.goes h m;
   within = omega arith;
 }
@@ -52,7 +53,7 @@ returns-else-is_empty c = record {
   value = λ h m.
       sym (pick_false _ _ _ (sym c.if-is_empty.ensures))
       ∙ going_final c.args.unlocked.now c.args.bytes.now c.frames.out c.frames.rest.now c.open_frame.new.out c.frames.number c.frames.at (frame_of c.in-Some.frame) c.frames.invariant c.in-Some.ensures.value (c.frames.at + length c.in-Some.frame.ciphertext.now - c.frames.at) (c.frames.at + length c.in-Some.frame.ciphertext.now)
-      (text_found (key_of c.args.unlocked.now.key) c.args.unlocked.now.id c.frames.number (frame_of c.in-Some.frame) _ c.open_frame.new.out c.if-not-open_frame.ensures.value (part_long c.args.unlocked.now c.args.bytes.now c.frames.out c.frames.rest.now [] c.frames.number c.frames.at (frame_of c.in-Some.frame) c.frames.invariant c.in-Some.ensures.value))
-      c.if-frame.true (omega arith) h m;
+      (text_found (key_of c.args.unlocked.now.cipher.key) c.args.unlocked.now.cipher.id c.frames.number (frame_of c.in-Some.frame) _ c.open_frame.new.out c.in-Ok.ensures.value (part_long c.args.unlocked.now c.args.bytes.now c.frames.out c.frames.rest.now [] c.frames.number c.frames.at (frame_of c.in-Some.frame) c.frames.invariant c.in-Some.ensures.value))
+      (ap is_final c.in-Final.is) (omega arith) h m;
   within = omega arith;
 }

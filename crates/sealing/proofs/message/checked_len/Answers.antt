@@ -10,11 +10,10 @@ use Rattle.sealing.proofs.message.checked_len.Goals as goal
 pub overflow_add-result : goal.overflow_add-result
 overflow_add-result c = let short = header_short c.args.header c.args.checked c.requires.passed c.requires.checked in omega arith
 
-pub frames_len-requires : goal.frames_len-requires
-frames_len-requires c =
+pub invariant_of-framing : goal.invariant_of-framing
+invariant_of-framing c =
     let p = header_passed (request_with [] c.args.header []) (sym c.requires.passed) in
-    let t = text_short c.args.text_len c.args.header.frame_length c.requires.fits in
-    record { some = p.frame_length; few = t.0; short = t.1 }
+    record { some = p.frame_length; fits = c.requires.fits }
 
 pub overflow_add-result-2 : goal.overflow_add-result-2
 overflow_add-result-2 c =

@@ -1,51 +1,30 @@
-use Rattle.std.proofs.Common.{suc, ◌+◌, ◌-◌, length, take, drop, sym, refl, ◌∙◌, arith}
-use Rattle.std.proofs.lemmas.Bool.{both_ways, eq-eqb}
-use Rattle.octets.proofs.Splice.{spliced_all}
+use Rattle.std.proofs.Common.{◌≡◌, ℕ, ◌+◌, ◌*◌, refl, arith, add-mul}
 use Rattle.gcm.specs.Key.{key_of}
-use Rattle.format.proofs.Lengths.{length_frames}
-use Rattle.sealing.proofs.Remaining.{left_room, left_more, left_last, left_end, left_first, part_long, final_fits, number_more, number_next}
+use Rattle.sealing.proofs.Messages.{part_long}
+use Rattle.sealing.proofs.Remaining.{place, last_place, left_more, left_end}
 use Rattle.sealing.proofs.message.seal_frames.Goals as goal
 
-pub loop-from-init : goal.loop-from-init
-loop-from-init c = (left_first (key_of c.args.cipher.now) c.args.id.now c.args.text.now c.args.out.now c.args.frame_length c.requires.room, omega arith, omega arith, omega arith)
-
-pub slice_bounds-seal_regular_frame-end-in-loop-from : goal.slice_bounds-seal_regular_frame-end-in-loop-from
-slice_bounds-seal_regular_frame-end-in-loop-from c =
-    let room = left_room (key_of c.args.cipher.now) c.args.id.now c.args.text.now _ c.loop-from.out c.args.frame_length c.loop-from.number c.loop-from.from c.loop-from.at c.loop-from.invariant.0 c.requires.some c.loop-from-test.true in
-    omega arith
-
-pub unreachable-requires : goal.unreachable-requires
-unreachable-requires c =
-    let room = left_room (key_of c.args.cipher.now) c.args.id.now c.args.text.now _ c.loop-from.out c.args.frame_length c.loop-from.number c.loop-from.from c.loop-from.at c.loop-from.invariant.0 c.requires.some c.loop-from-test.true in
-    let a = part_long c.loop-from.out c.loop-from.at (c.loop-from.at + c.args.frame_length + 32) (omega arith) (omega arith) in
-    let b = part_long c.args.text.now c.loop-from.from (c.loop-from.from + c.args.frame_length) (omega arith) (omega arith) in
-    both_ways _ (sym c.in_default.ensures.fits) (eq-eqb _ _ (omega arith))
-
-pub loop-from-preserved : goal.loop-from-preserved
-loop-from-preserved c =
-    let few = number_more c.loop-from.number c.loop-from.from c.args.frame_length (length c.args.text.now) c.loop-from.invariant.2 c.loop-from-test.true c.requires.few in
-    let room = left_room (key_of c.args.cipher.now) c.args.id.now c.args.text.now _ c.loop-from.out c.args.frame_length c.loop-from.number c.loop-from.from c.loop-from.at c.loop-from.invariant.0 c.requires.some c.loop-from-test.true in
-    let a = part_long c.loop-from.out c.loop-from.at (c.loop-from.at + c.args.frame_length + 32) (omega arith) (omega arith) in (
-      left_more (key_of c.args.cipher.now) c.args.id.now c.args.text.now _ c.loop-from.out c.seal_regular_frame.new.out c.args.frame_length c.loop-from.number c.loop-from.from c.loop-from.at
-          _ _ (c.loop-from.at + c.args.frame_length + 32) c.requires.some c.loop-from-test.true (omega arith) (omega arith) (omega arith) (omega arith) c.in-Ok.ensures.value c.loop-from.invariant.0,
-      omega arith,
-      number_next c.loop-from.number c.loop-from.from c.args.frame_length c.loop-from.invariant.2,
-      omega arith,
-    )
-
-pub unreachable-requires-in_default-seal_final_frame : goal.unreachable-requires-in_default-seal_final_frame
-unreachable-requires-in_default-seal_final_frame c =
-    let last = left_last (key_of c.args.cipher.now) c.args.id.now c.args.text.now _ c.loop-from.out c.args.frame_length c.loop-from.number c.loop-from.from c.loop-from.at c.loop-from.invariant.0 c.requires.some c.loop-from-test.false in
-    let a = part_long c.loop-from.out c.loop-from.at (length c.loop-from.out) (omega arith) (omega arith) in
-    let b = part_long c.args.text.now c.loop-from.from (length c.args.text.now) (omega arith) (omega arith) in
-    final_fits (length (take (length c.args.text.now - c.loop-from.from) (drop c.loop-from.from c.args.text.now))) (length (take (length c.loop-from.out - c.loop-from.at) (drop c.loop-from.at c.loop-from.out)))
-    c.in_default-seal_final_frame.ensures.fits (omega arith) (omega arith)
+pub loop-done-preserved : goal.loop-done-preserved
+loop-done-preserved c =
+    let sealed : c.args.framing.frame_length + c.overhead.result ≡ c.args.framing.frame_length + 32 = omega arith in
+    let p = place c.args.framing.text_len c.args.framing.frame_length c.loop-done.done c.regular_frames-regular.result (c.args.framing.frame_length + c.overhead.result) c.args.framing.some sealed c.regular_frames-regular.ensures.value c.loop-done-test.true in
+    let more = p.more in
+    let room = p.room in
+    let at : ℕ = c.loop-done.done * (c.args.framing.frame_length + c.overhead.result) in
+    let long = part_long c.loop-done.out at (at + (c.args.framing.frame_length + c.overhead.result)) (omega arith) (omega arith) in
+    let next = add-mul c.loop-done.done 1 (c.args.framing.frame_length + c.overhead.result) in
+    let frame = rw c.unwrap.ensures at c.seal_frame.ensures.value in
+    left_more (key_of c.args.cipher.now.key) c.args.cipher.now.id c.args.text.now _ c.loop-done.out c.seal_frame.new.out c.args.framing.frame_length c.loop-done.done _ _ _ _
+    c.args.framing.some (omega arith) (omega arith) (omega arith) (omega arith) (omega arith) frame c.loop-done.invariant
 
 pub returns : goal.returns
 returns c =
-    let long = length_frames (suc (length c.args.text.now)) (key_of c.args.cipher.now) c.args.id.now c.args.frame_length 1 c.args.text.now c.requires.long c.requires.some (omega arith) in
-    let last = left_last (key_of c.args.cipher.now) c.args.id.now c.args.text.now _ c.loop-from.out c.args.frame_length c.loop-from.number c.loop-from.from c.loop-from.at c.loop-from.invariant.0 c.requires.some c.loop-from-test.false in
-    let a = part_long c.loop-from.out c.loop-from.at (length c.loop-from.out) (omega arith) (omega arith) in
-    left_end (key_of c.args.cipher.now) c.args.id.now c.args.text.now _ c.loop-from.out c.seal_final_frame.new.out c.args.frame_length c.loop-from.number c.loop-from.from c.loop-from.at
-    _ (length c.args.text.now - c.loop-from.from) c.requires.some c.loop-from-test.false c.loop-from.invariant.1 refl (omega arith) c.in-Ok-seal_final_frame.ensures.value c.loop-from.invariant.0
-    ∙ spliced_all c.args.out.now _ (omega arith)
+    let sealed : c.args.framing.frame_length + c.overhead.result ≡ c.args.framing.frame_length + 32 = omega arith in
+    let p = last_place c.args.framing.text_len c.args.framing.frame_length c.regular_frames-regular.result (c.args.framing.frame_length + c.overhead.result) c.args.framing.some sealed c.regular_frames-regular.ensures.value in
+    let within = p.within in
+    let short = p.short in
+    let room = p.room in
+    let all : c.loop-done.done ≡ c.regular_frames-regular.result = omega arith in
+    let frame = rw c.unwrap-2.ensures at c.seal_frame-2.ensures.value in
+    left_end (key_of c.args.cipher.now.key) c.args.cipher.now.id c.args.text.now _ c.loop-done.out c.seal_frame-2.new.out c.args.framing.frame_length c.regular_frames-regular.result _ _ _
+    (omega arith) (omega arith) refl refl (omega arith) frame (rw all at c.loop-done.invariant)

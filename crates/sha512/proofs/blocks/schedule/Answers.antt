@@ -1,13 +1,10 @@
-use Rattle.std.proofs.Common.{◌≡◌, ℕ, suc, ◌+◌, ◌-◌, ◌<◌, ◌≤◌, List, length, take, sym, ap, ◌∙◌, arith, length-set, rules}
+use Rattle.std.proofs.Common.{◌≡◌, ℕ, suc, ◌+◌, ◌-◌, ◌<◌, ◌≤◌, length, take, sym, ap, ◌∙◌, arith, length-set}
 use Rattle.std.proofs.lemmas.List.{take_all}
 use Rattle.octets.specs.Bytes.{reversed}
 use Rattle.octets.proofs.Lists.{reversed-reversed}
 use Rattle.sha512.specs.Sha512.{extend_words}
 use Rattle.sha512.proofs.Schedule.{extend_more}
 use Rattle.sha512.proofs.blocks.schedule.Goals as goal
-
-pub loop-t-init : goal.loop-t-init
-loop-t-init c = (search rules, ap (λ (xs : List ℕ). extend_words 64 (reversed xs)) c.block_words-w.ensures)
 
 pub loop-t-preserved : goal.loop-t-preserved
 loop-t-preserved c =

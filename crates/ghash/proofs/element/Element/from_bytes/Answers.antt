@@ -1,6 +1,6 @@
 use Rattle.std.proofs.Common.{◌∙◌, arith}
-use Rattle.ghash.proofs.Sixteen.{all_read}
+use Rattle.ghash.proofs.Sixteen.{halves, sixteen_read}
 use Rattle.ghash.proofs.element.Element.from_bytes.Goals as goal
 
 pub returns : goal.returns
-returns c = record { value = c.element_at.ensures ∙ all_read c.args.bytes.now (omega arith) }
+returns c = record { value = halves c.from_be_bytes-number.result ∙ (c.from_be_bytes-number.ensures ∙ sixteen_read c.args.bytes.now (omega arith)) }

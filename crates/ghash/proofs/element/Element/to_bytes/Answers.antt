@@ -1,10 +1,9 @@
-use Rattle.std.proofs.Common.{arith}
-use Rattle.ghash.proofs.Sixteen.{sixteen_written}
+use Rattle.std.proofs.Common.{sym, ap, ◌∙◌, arith}
+use Rattle.octets.specs.Bytes.{to_bytes}
+use Rattle.octets.proofs.Numbers.{to_bytes_16}
+use Rattle.ghash.proofs.Sixteen.{joined}
 use Rattle.ghash.proofs.element.Element.to_bytes.Goals as goal
 
 pub returns : goal.returns
 returns c =
-    record {
-      value = sixteen_written c.to_be_bytes-h.result c.to_be_bytes-l.result c.args.self.hi c.args.self.lo (omega arith) c.to_be_bytes-h.ensures
-          c.to_be_bytes-l.ensures;
-    }
+    record { value = c.to_be_bytes.ensures ∙ (sym (to_bytes_16 _) ∙ ap (λ k. to_bytes 16 k) (joined c.args.self.hi c.args.self.lo (omega arith) (omega arith))) }

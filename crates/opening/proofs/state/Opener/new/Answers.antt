@@ -39,7 +39,7 @@ returns c =
         matches = c.in_ok-unlocked.ensures.0;
         rest = s.rest;
         comes = λ more.
-            pick_false _ _ _ refl ∙ ap (λ l. open_rest (key_of c.in_ok-unlocked.unlocked.key) (header_in c.in-Some.read.header) 1 [] (l ++ more)) s.rest
+            pick_false _ _ _ refl ∙ ap (λ l. open_rest (key_of c.in_ok-unlocked.unlocked.cipher.key) (header_in c.in-Some.read.header) 1 [] (l ++ more)) s.rest
             ∙ c.in_ok-unlocked.ensures.1 (c.in-Some.read.rest.now ++ more)
             ∙ opening_some c.args.key.now (c.args.bytes.now ++ more) (header_on more (read_header_in c.in-Some.read)) (sym (header_grows more c.args.bytes.now (read_header_in c.in-Some.read) [] (sym c.in-Some.ensures.value)));
       };

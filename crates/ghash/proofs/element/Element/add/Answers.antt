@@ -1,7 +1,0 @@
-use Rattle.std.proofs.Common.{arith}
-use Rattle.ghash.proofs.Words.{xor_words}
-use Rattle.ghash.proofs.element.Element.add.Goals as goal
-
-pub returns : goal.returns
-returns c =
-    record { value = xor_words c.args.self.hi c.args.self.lo c.args.other.hi c.args.other.lo (omega arith) (omega arith) (omega arith) (omega arith) }

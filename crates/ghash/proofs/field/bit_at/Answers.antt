@@ -1,9 +1,0 @@
-use Rattle.std.proofs.Common.{arith}
-use Rattle.ghash.proofs.Words.{bit_low, bit_high}
-use Rattle.ghash.proofs.field.bit_at.Goals as goal
-
-pub returns-then-n-lt64 : goal.returns-then-n-lt64
-returns-then-n-lt64 c = bit_low c.args.x.hi c.args.x.lo c.args.n (omega arith)
-
-pub returns-else-n-lt64 : goal.returns-else-n-lt64
-returns-else-n-lt64 c = bit_high c.args.x.hi c.args.x.lo c.args.n (omega arith) (omega arith)

@@ -1,8 +1,0 @@
-use Rattle.std.proofs.Common.{◌∙◌}
-use Rattle.hkdf.specs.MessageKeys.{commit_label}
-use Rattle.hkdf.proofs.Answered.{jefe_derived}
-use Rattle.hkdf.proofs.known.key_of_jefe.Goals as goal
-
-pub returns : goal.returns
-unfolding commit_label
-returns c = record { value = c.in-Ok.ensures.value.1 ∙ jefe_derived }
