@@ -86,3 +86,6 @@ less_is [] [] = refl
 less_is [] (y ∷ ys) = refl
 less_is (x ∷ xs) [] = refl
 less_is (x ∷ xs) (y ∷ ys) = first_decides (ltb x y) (eqb x y) (slice_partial_cmp (as_partial_cmp nat_cmp) xs ys) ∙ ap (λ b. ltb x y || (eqb x y && b)) (less_is xs ys)
+
+pub less_told : (r : Bool) (xs ys : List ℕ) → r ≡ partial_lt (slice_partial_cmp (as_partial_cmp nat_cmp)) xs ys → r ≡ bytes_lt xs ys
+less_told r xs ys e = e ∙ less_is xs ys
