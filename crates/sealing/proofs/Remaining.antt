@@ -42,6 +42,10 @@ place text size i n sealed p e d h =
     ap-le : n ≡ (text - 1) / size → (text - 1) / size * size ≤ text - 1 → n * size ≤ text - 1
     ap-le q m = rw q m
 
+-- a count that is at its end
+pub at_last : (done regular : ℕ) → done ≤ regular → regular ≤ done → done ≡ regular
+at_last done regular h k = omega arith
+
 -- the frames of what is left after i regular ones
 abbrev pub left : List ℕ → List ℕ → List ℕ → ℕ → ℕ → List ℕ
 left key id text size i = frames (suc (length (L.drop (i * size) text))) key id size (i + 1) (L.drop (i * size) text)
