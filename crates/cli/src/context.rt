@@ -3,6 +3,7 @@ ghost use Rattle.std.specs.Prelude.{◌≡◌, true, [], map};
 ghost use Rattle.cli.specs.Context.{pair_of, rising, Adds};
 ghost use Rattle.cli.specs.declared.context.AddError.TheVariants.{Memory};
 
+use octets::less;
 use std::alloc::{AllocFailed, Global};
 use std::marker::Model;
 
@@ -28,13 +29,14 @@ impl<'a, T: Drop> From<AllocFailed<T>> for AddError<'a> {
 }
 
 // Puts a pair among pairs in any order, before the first whose name isn't below its own; it is refused where that one has its name.
-// The library's search from the front is right for any order, where one that halves would be for pairs in order alone.
+// The library's search from the front is right for any order, where one that halves would be for pairs in order alone. Names are
+// compared as bytes by `less`, which is quicker at short names than the order of texts.
 pub fn add_pair<'a>(pairs: &mut Vec<Pair<'a>>, pair: Pair<'a>) -> Result<(), AddError<'a>>
     ensures value { Adds (pair_of pair.entry) (map pair_of pairs.old.items) result (map pair_of pairs.new.items) }
 {
     let place = pairs
         .iter()
-        .position(|one| one.name >= pair.name)
+        .position(|one| !less(one.name.as_bytes(), pair.name.as_bytes()))
         .unwrap_or(pairs.len());
     if place < pairs.len() && pairs[place].name == pair.name {
         return Err(AddError::Twice(pair.name));
