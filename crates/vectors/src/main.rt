@@ -9,7 +9,7 @@ mod words;
 
 use std::alloc::Global;
 use std::fs;
-use words::{Word, Words};
+use words::Words;
 
 // Whether the case on this line comes out as expected.
 fn outcome<F: Fn(&mut Words) -> anyhow::Result<bool>>(
@@ -19,8 +19,7 @@ fn outcome<F: Fn(&mut Words) -> anyhow::Result<bool>>(
 ) -> anyhow::Result<bool>
     requires { F.IsAlwaysCallable case.now }
 {
-    let words = Word::all(heap, line)?;
-    case(&mut Words::of(heap, words.as_slice()))
+    case(&mut Words::of(heap, line))
 }
 
 fn run<F: Fn(&mut Words) -> anyhow::Result<bool>>(
@@ -32,12 +31,17 @@ fn run<F: Fn(&mut Words) -> anyhow::Result<bool>>(
 {
     let heap = rt.alloc();
     let text = fs::read_to_string(rt, name)?;
-    let outcomes: Vec<bool> = text
-        .lines()
-        .map(|line| outcome(heap, line, &case))
-        .try_collect(heap)?;
-    let right = outcomes.iter().filter(|right| **right).count();
-    println!(rt; "{name}: {right} of {}", outcomes.len())?;
+    let (right, all) = text.lines().try_fold(
+        (0u32, 0u32),
+        |(right, all), line| -> anyhow::Result<(u32, u32)> {
+            let is_right = outcome(heap, line, &case)?;
+            Ok((
+                right.saturating_add(u32::from(is_right)),
+                all.saturating_add(1),
+            ))
+        },
+    )?;
+    println!(rt; "{name}: {right} of {all}")?;
     Ok(())
 }
 
