@@ -7,21 +7,10 @@ mod messages;
 mod requests;
 mod words;
 
-use std::alloc::Global;
 use std::fs;
 use words::Words;
 
-// Whether the case on this line comes out as expected.
-fn outcome<F: Fn(&mut Words) -> anyhow::Result<bool>>(
-    heap: Global,
-    line: &str,
-    case: &F,
-) -> anyhow::Result<bool>
-    requires { F.IsAlwaysCallable case.now }
-{
-    case(&mut Words::of(heap, line))
-}
-
+// Runs the case on each line, and says how many came out as expected.
 fn run<F: Fn(&mut Words) -> anyhow::Result<bool>>(
     rt: &HostRuntime,
     name: &str,
@@ -31,16 +20,12 @@ fn run<F: Fn(&mut Words) -> anyhow::Result<bool>>(
 {
     let heap = rt.alloc();
     let text = fs::read_to_string(rt, name)?;
-    let (right, all) = text.lines().try_fold(
-        (0u32, 0u32),
-        |(right, all), line| -> anyhow::Result<(u32, u32)> {
-            let is_right = outcome(heap, line, &case)?;
-            Ok((
-                right.saturating_add(u32::from(is_right)),
-                all.saturating_add(1),
-            ))
-        },
-    )?;
+    let mut right = 0u32;
+    let mut all = 0u32;
+    for line in text.lines() {
+        right = right.saturating_add(u32::from(case(&mut Words::of(heap, line))?));
+        all = all.saturating_add(1);
+    }
     println!(rt; "{name}: {right} of {all}")?;
     Ok(())
 }

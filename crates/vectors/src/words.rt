@@ -1,7 +1,7 @@
 // The words of a line, one after the other, and what they say.
 ghost use Rattle.std.specs.Prelude.{◌<◌, IfSome};
 
-use anyhow::Context;
+use anyhow::{Context, bail};
 use std::alloc::{AllocError, Global};
 use std::str::Split;
 
@@ -20,12 +20,9 @@ impl<'w> Words<'w> {
         }
     }
 
-    fn next(&mut self) -> anyhow::Result<&'w str> {
-        self.left.next().context("a word is missing")
-    }
-
     pub fn read<T: FromWords<'w>>(&mut self) -> anyhow::Result<T> {
-        T::from_words(self)
+        // Not handed on as it came: a result with room for an error is large, and would be moved whole at each word.
+        Ok(T::from_words(self)?)
     }
 }
 
@@ -36,13 +33,16 @@ pub trait FromWords<'w>: Sized + Drop {
 
 impl<'w> FromWords<'w> for &'w str {
     fn from_words(words: &mut Words<'w>) -> anyhow::Result<&'w str> {
-        words.next()
+        let Some(word) = words.left.next() else {
+            bail!("a word is missing");
+        };
+        Ok(word)
     }
 }
 
 impl<'w> FromWords<'w> for u64 {
     fn from_words(words: &mut Words<'w>) -> anyhow::Result<u64> {
-        Ok(words.next()?.parse::<u64>()?)
+        Ok(words.read::<&str>()?.parse::<u64>()?)
     }
 }
 
@@ -61,13 +61,12 @@ impl<'w> FromWords<'w> for usize {
 // Hexadecimal digits, or `-` for no bytes.
 impl<'w> FromWords<'w> for Vec<u8> {
     fn from_words(words: &mut Words<'w>) -> anyhow::Result<Vec<u8>> {
-        let word = words.next()?;
-        let why = if word.len() % 2 == 0 {
-            "not a hexadecimal digit"
-        } else {
-            "half a byte"
-        };
-        unhex(words.heap, word)?.context(why)
+        let word = words.read::<&str>()?;
+        match unhex(words.heap, word)? {
+            Some(bytes) => Ok(bytes),
+            None if word.len() % 2 == 0 => bail!("not a hexadecimal digit"),
+            None => bail!("half a byte"),
+        }
     }
 }
 
