@@ -20,6 +20,7 @@ fn run<F: Fn(&mut Words) -> anyhow::Result<bool>>(
 {
     let heap = rt.alloc();
     let text = fs::read_to_string(rt, name)?;
+    // Two counts: a `Vec` of outcomes grows with the file, and a fold moves each case's whole result, room for an error and all.
     let mut right = 0u32;
     let mut all = 0u32;
     for line in text.lines() {

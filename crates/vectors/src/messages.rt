@@ -4,7 +4,7 @@ use crate::requests::{Fixed, OwnedDataKey, OwnedLists, OwnedPair, header_request
 use crate::words::Words;
 use anyhow::ensure;
 use header::Request;
-use header_read::{Context, EncryptedDataKeys, ReadHeader};
+use header_read::ReadHeader;
 use opening::{OpenRefusal, Opened};
 
 pub fn header_case(words: &mut Words) -> anyhow::Result<bool> {
@@ -16,7 +16,8 @@ pub fn header_case(words: &mut Words) -> anyhow::Result<bool> {
     }
 }
 
-// The parts of a header that was read, with its tag and how much comes after, as the words say them; each is let go before the next is read.
+// The parts of a header that was read, with its tag and how much comes after, as the words say them. What a word says is let go before the
+// next is read.
 fn header_is(read: ReadHeader, words: &mut Words) -> anyhow::Result<bool> {
     let header = read.header;
     let id = words.read::<Vec<u8>>()?.as_slice() == header.id;
@@ -24,24 +25,19 @@ fn header_is(read: ReadHeader, words: &mut Words) -> anyhow::Result<bool> {
     let commitment = words.read::<Vec<u8>>()?.as_slice() == header.commitment;
     let tag = words.read::<Vec<u8>>()?.as_slice() == read.tag;
     let rest = words.read::<u64>()? == read.rest.len() as u64;
-    let context = context_is(header.context, words)?;
-    let data_keys = data_keys_are(header.encrypted_data_keys, words)?;
+    let context = header.context.pairs().eq(
+        words
+            .read::<Vec<OwnedPair>>()?
+            .iter()
+            .map(|pair| pair.lend()),
+    );
+    let data_keys = header.encrypted_data_keys.data_keys().eq(
+        words
+            .read::<Vec<OwnedDataKey>>()?
+            .iter()
+            .map(|key| key.lend()),
+    );
     Ok(id && frame_length && commitment && tag && rest && context && data_keys)
-}
-
-// The pairs, in order and no more, that the words say.
-fn context_is(context: Context, words: &mut Words) -> anyhow::Result<bool> {
-    let expected = words.read::<Vec<OwnedPair>>()?;
-    Ok(context.pairs().eq(expected.iter().map(|pair| pair.lend())))
-}
-
-fn data_keys_are(data_keys: EncryptedDataKeys, words: &mut Words) -> anyhow::Result<bool> {
-    let expected = words.read::<Vec<OwnedDataKey>>()?;
-    Ok(
-        data_keys
-            .data_keys()
-            .eq(expected.iter().map(|key| key.lend())),
-    )
 }
 
 // Opened, or refused with the number and the frame that are expected; what is lent holds the text and zeros, or zeros.
@@ -57,9 +53,15 @@ pub fn open_case(words: &mut Words) -> anyhow::Result<bool> {
 }
 
 fn opened_is(opened: Opened, out: &[u8], words: &mut Words) -> anyhow::Result<bool> {
-    let text = words.read::<Vec<u8>>()?;
-    let context = context_is(opened.context, words)?;
-    Ok(context && opened.len == text.len() && text_and_zeros(text.as_slice(), out))
+    let (text, context) = words.read::<(Vec<u8>, Vec<OwnedPair>)>()?;
+    Ok(
+        opened.len == text.len()
+            && text_and_zeros(text.as_slice(), out)
+            && opened
+                .context
+                .pairs()
+                .eq(context.iter().map(|pair| pair.lend())),
+    )
 }
 
 fn text_and_zeros(text: &[u8], out: &[u8]) -> bool {

@@ -5,7 +5,7 @@ use anyhow::{Context, bail};
 use std::alloc::{AllocError, Global};
 use std::str::Split;
 
-// The words that are left of a line. Each is cut off and made into what it says when it is read, so what no case asks for costs nothing.
+// The words that are left of a line. Each is cut off and made into what it says when it is read: what no case asks for costs nothing.
 #[derive(Drop)]
 pub struct Words<'w> {
     pub heap: Global,
