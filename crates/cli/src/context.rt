@@ -84,7 +84,8 @@ impl<'a> Context<'a> {
         ensures value { map pair_of result.items ≡ self.entry }
         ensures order { rising (map pair_of result.items) ≡ true }
     {
-        self.pairs
+        let Context { pairs } = self;
+        pairs
     }
 
     // Puts a pair in its place; a name that is there already is refused.
