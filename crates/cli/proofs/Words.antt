@@ -1,20 +1,57 @@
 -- The words of a command line are taken from the left: what one word is for, and what one more does to the whole.
-use Rattle.std.proofs.Common.{◌≡◌, ℕ, ◌+◌, ◌<◌, ◌≤◌, List, [], ◌∷◌, ◌++◌, map, length, get_or, drop, Some, None, Ok, Err, string_bytes, Result, String, sym, refl, ap, ◌∙◌, append_assoc, append-nil}
+use Rattle.std.proofs.Common.{◌≡◌, ℕ, ◌+◌, ◌<◌, ◌≤◌, false, eqb, List, [], ◌∷◌, ◌++◌, map, length, get_or, drop, Some, None, Ok, Err, string_bytes, codes, Option, Result, String, sym, refl, ap, ◌∙◌, ⊎_elim, append_assoc, append-nil}
+use Rattle.std.proofs.lemmas.Slice.Eq.{bytes_eq-Decides}
 use Rattle.std.proofs.lemmas.List.{drop_more, drop_all, map_push}
+use Rattle.std.proofs.lemmas.Bool.{cases_Bool, ne_eqb, eq-eqb, cond-true, cond-false}
+use Rattle.std.specs.Str.{bytes_eq}
 use Rattle.cli.specs.declared.options.Program.{Program}
 use Rattle.cli.specs.declared.options.Kind.{Kind}
+use Rattle.cli.specs.declared.options.Kind.TheVariants.{Operand}
 use Rattle.cli.specs.declared.scan.Expects.{Expects}
 use Rattle.cli.specs.declared.scan.Expects.TheVariants as expects
 use Rattle.cli.specs.declared.scan.Expects.TheVariants.{Word, ValueOf}
 use Rattle.cli.specs.declared.scan.Step.{Step}
 use Rattle.cli.specs.declared.line.Given.{Given}
 use Rattle.cli.specs.Line.{Item, item}
-use Rattle.cli.specs.Scan.{Fault, unknown, no_value, item_before, at_end, go_on, step_of, scan_from, words_of}
+use Rattle.cli.specs.Options.{option_of}
+use Rattle.cli.specs.Scan.{Fault, unknown, no_value, item_before, at_end, go_on, step_of, word_step, option_step, scan_from, words_of}
+
+pub not_same : (xs ys : List ℕ) → (xs ≡ ys → ⊥) → bytes_eq xs ys ≡ false
+not_same xs ys h = ⊎_elim (λ t. absurd (h ((bytes_eq-Decides xs ys).0 t))) (λ f. f) (cases_Bool (bytes_eq xs ys))
+
+pub no_option : (w : List ℕ) → (w ≡ codes "--key" → ⊥) → (w ≡ codes "--data-key" → ⊥) → (w ≡ codes "--context" → ⊥) → (w ≡ codes "--frame-length" → ⊥) → (w ≡ codes "--id" → ⊥) → (w ≡ codes "--header" → ⊥) → (w ≡ codes "--force" → ⊥) → (w ≡ codes "--help" → ⊥) → (w ≡ codes "--version" → ⊥) → None ≡ option_of w
+no_option w a b c d e f g h i =
+    sym
+    (cond-false (bytes_eq w (codes "--key")) _ _ (not_same w (codes "--key") a)
+    ∙ cond-false (bytes_eq w (codes "--data-key")) _ _ (not_same w (codes "--data-key") b)
+    ∙ cond-false (bytes_eq w (codes "--context")) _ _ (not_same w (codes "--context") c)
+    ∙ cond-false (bytes_eq w (codes "--frame-length")) _ _ (not_same w (codes "--frame-length") d)
+    ∙ cond-false (bytes_eq w (codes "--id")) _ _ (not_same w (codes "--id") e)
+    ∙ cond-false (bytes_eq w (codes "--header")) _ _ (not_same w (codes "--header") f)
+    ∙ cond-false (bytes_eq w (codes "--force")) _ _ (not_same w (codes "--force") g)
+    ∙ cond-false (bytes_eq w (codes "--help")) _ _ (not_same w (codes "--help") h)
+    ∙ cond-false (bytes_eq w (codes "--version")) _ _ (not_same w (codes "--version") i))
+
+-- a word that isn't "--" and begins with '-'
+pub option_word : (program : Program) (w : List ℕ) → (w ≡ codes "--" → ⊥) → get_or w 0 0 ≡ 45 → option_step program (option_of w) ≡ word_step program w
+option_word program w h e =
+    sym (cond-false (bytes_eq w (codes "--")) _ _ (not_same w (codes "--") h) ∙ cond-true (eqb (get_or w 0 0) 45) _ _ (eq-eqb (get_or w 0 0) 45 e))
+
+pub file_word : (program : Program) (w : List ℕ) → (w ≡ codes "--" → ⊥) → (get_or w 0 0 ≡ 45 → ⊥) → Some (record { given = Some Operand; then = Word }) ≡ word_step program w
+file_word program w h e =
+    sym (cond-false (bytes_eq w (codes "--")) _ _ (not_same w (codes "--") h) ∙ cond-false (eqb (get_or w 0 0) 45) _ _ (ne_eqb (get_or w 0 0) 45 e))
+
+pub taken_option : (program : Program) (w : List ℕ) (k : Kind) (s : Option Step) → Some k ≡ option_of w → s ≡ option_step program (Some k) → s ≡ option_step program (option_of w)
+taken_option program w k s n e = e ∙ ap (option_step program) n
 
 -- the items so far, and what is left
 abbrev pub items_before : List Item → Result (List Item) Fault → Result (List Item) Fault
 items_before done (Ok xs) = Ok (done ++ xs)
 items_before done (Err e) = Err e
+
+pub none_before : (r : Result (List Item) Fault) → items_before [] r ≡ r
+none_before (Ok xs) = refl
+none_before (Err e) = refl
 
 step_on : {Z : Type 0} (program : Program) (e : Expects) (ws : List (String Z)) (i : ℕ) (w : String Z) → i < length ws → w ≡ get_or ws i w
     → scan_from program e (words_of (drop i ws)) ≡ go_on (string_bytes w) (step_of program e (string_bytes w)) (λ f. scan_from program f (words_of (drop (i + 1) ws)))

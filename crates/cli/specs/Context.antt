@@ -27,5 +27,5 @@ rising (p ∷ (q ∷ qs)) = bytes_lt p.name q.name && rising (q ∷ qs)
 -- where the pairs were in order they still are, and a refused pair leaves them as they were
 abbrev pub Adds : NamedValue → List NamedValue → Result (Unit {0}) AddError → List NamedValue → Type 0
 Adds p old (Ok u) new = (with_pair p old ≡ Some new) × (rising old ≡ true → rising new ≡ true)
-Adds p old (Err (Twice name)) new = (with_pair p old ≡ None) × (name.now ≡ p.name) × (new ≡ old)
+Adds p old (Err Twice) new = (with_pair p old ≡ None) × (new ≡ old)
 Adds p old (Err Memory) new = new ≡ old

@@ -5,7 +5,7 @@ ghost use Rattle.cli.specs.Line.{texts};
 ghost use Rattle.commands.specs.Given.{context_from};
 
 use crate::problem::Problem;
-use cli::context::{Context, Pair};
+use cli::context::{AddError, Context, Pair};
 use cli::line::CommandLine;
 use cli::options::Kind;
 use cli::split::split_pair;
@@ -20,7 +20,12 @@ pub fn context_of<'a>(heap: Global, line: &CommandLine<'_, 'a>) -> Result<Contex
     let mut context = Context::new(heap);
     for word in line.texts(Kind::Context) {
         let (name, value) = split_pair(word).ok_or(Problem::NoPair(word))?;
-        context.add(Pair { name, value })?;
+        // by hand, since the error doesn't hold the name, so that it outlives it
+        match context.add(Pair { name, value }) {
+            Ok(()) => {}
+            Err(AddError::Twice) => return Err(Problem::NameTwice(name)),
+            Err(AddError::Memory) => return Err(Problem::Memory),
+        }
     }
     Ok(context)
 }

@@ -1,6 +1,5 @@
 // What can go wrong, as one line for a person. `Display` and `From` are by hand: no derive of std's makes either.
 use crate::limits::{MAX_FRAME_LENGTH, MAX_HEADER, MAX_TEXT};
-use cli::context::AddError;
 use cli::options::Kind;
 use cli::scan::ScanError;
 use std::alloc::{AllocError, AllocFailed};
@@ -45,15 +44,6 @@ pub enum Problem<'a> {
     Changed(&'a str),
     NoText,
     Memory,
-}
-
-impl<'a> From<AddError<'a>> for Problem<'a> {
-    fn from(error: AddError<'a>) -> Problem<'a> {
-        match error {
-            AddError::Twice(name) => Problem::NameTwice(name),
-            AddError::Memory => Problem::Memory,
-        }
-    }
 }
 
 impl<'a> From<AllocError> for Problem<'a> {

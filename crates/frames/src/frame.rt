@@ -38,11 +38,11 @@ impl FrameKind {
 
 // a frame that was read: what is sealed in it, and the bytes after it
 #[derive(Clone, Copy)]
-pub struct Frame<'m> {
+pub struct Frame<'c, 'r> {
     pub kind: FrameKind,
-    pub ciphertext: &'m [u8],
+    pub ciphertext: &'c [u8],
     pub tag: [u8; 16],
-    pub rest: &'m [u8],
+    pub rest: &'r [u8],
 }
 
 // the lent bytes aren't as long as what is to be written

@@ -16,7 +16,7 @@ fn skip_nonce(number: u32, bytes: &[u8]) -> Option<&[u8]>
 }
 
 // A ciphertext of so many bytes and its tag.
-fn read_body(kind: FrameKind, len: usize, bytes: &[u8]) -> Option<Frame<'_>>
+fn read_body(kind: FrameKind, len: usize, bytes: &[u8]) -> Option<Frame<'_, '_>>
     ensures { next_frame result ≡ body (is_final kind) len bytes.now }
 {
     let (ciphertext, more) = bytes.split_at_checked(len)?;
@@ -30,14 +30,14 @@ fn read_body(kind: FrameKind, len: usize, bytes: &[u8]) -> Option<Frame<'_>>
 }
 
 // What comes after a regular frame's number, and after the end marker: the two share the nonce and the body only.
-fn read_regular(frame_length: u32, number: u32, bytes: &[u8]) -> Option<Frame<'_>>
+fn read_regular(frame_length: u32, number: u32, bytes: &[u8]) -> Option<Frame<'_, '_>>
     ensures { next_frame result ≡ read_regular frame_length number bytes.now }
 {
     let sealed = skip_nonce(number, bytes)?;
     read_body(FrameKind::Regular, frame_length as usize, sealed)
 }
 
-fn read_final(frame_length: u32, number: u32, bytes: &[u8]) -> Option<Frame<'_>>
+fn read_final(frame_length: u32, number: u32, bytes: &[u8]) -> Option<Frame<'_, '_>>
     ensures { next_frame result ≡ read_final frame_length number bytes.now }
 {
     let (own_number, more) = cut_number::<u32, _>(bytes)?;
@@ -53,7 +53,7 @@ fn read_final(frame_length: u32, number: u32, bytes: &[u8]) -> Option<Frame<'_>>
 }
 
 // The frame at the front of the bytes, which has to have this number and to stand there whole.
-pub fn read_frame(frame_length: u32, number: u32, bytes: &[u8]) -> Option<Frame<'_>>
+pub fn read_frame(frame_length: u32, number: u32, bytes: &[u8]) -> Option<Frame<'_, '_>>
     ensures value { next_frame result ≡ read_frame frame_length number bytes.now }
 {
     let (mark, more) = cut_number::<u32, _>(bytes)?;

@@ -21,19 +21,24 @@ ghash_step n h a bs = refl
 pub drop_drops : (m n k : ℕ) (s : List ℕ) → n + m ≡ k → drop m (drop n s) ≡ drop k s
 drop_drops m n k s e = drop_is m (drop n s) ∙ (ap (λ ys. dropN m ys) (drop_is n s) ∙ (drop-drop m n s ∙ (ap (λ j. dropN j s) e ∙ sym (drop_is k s))))
 
+pub ghash_turn : (n i h a b r : ℕ) (s : List ℕ) → i < n → b ≡ product (bits_xor 128 a (of_bytes (take 16 (drop (16 * i) s)))) h
+    → ghash (n - i) h a (drop (16 * i) s) ≡ r → ghash (n - (i + 1)) h b (drop (16 * (i + 1)) s) ≡ r
+ghash_turn n i h a b r s hi hb inv =
+    let m : ℕ = n - (i + 1) in
+    let e : suc m ≡ n - i = omega arith in
+    let f : 16 * i + 16 ≡ 16 * (i + 1) = omega arith in
+    ap₂ (λ k ys. ghash m h k ys) hb (sym (drop_drops 16 (16 * i) (16 * (i + 1)) s f))
+    ∙ (sym (ghash_step m h a (drop (16 * i) s)) ∙ (ap (λ k. ghash k h a (drop (16 * i) s)) e ∙ inv))
+
 -- a block of those that a text is cut into
 block_at : (k i : ℕ) (s d : List ℕ) → i < k → get_or (first_chunks 16 k s) i d ≡ take 16 (drop (16 * i) s)
 block_at k i s d h = chunk_at 16 k i s d h ∙ sym (take_is 16 (drop (16 * i) s) ∙ ap (λ ys. takeN 16 ys) (drop_is (16 * i) s))
 
-pub ghash_turn : (n i h a b m r : ℕ) (s d : List ℕ) (blocks : List (List ℕ)) → i < n → blocks ≡ first_chunks 16 n s → m ≡ of_bytes (get_or blocks i d) → b ≡ product (bits_xor 128 a m) h
+pub blocks_turn : (n i h a b m r : ℕ) (s d : List ℕ) (blocks : List (List ℕ)) → i < n → blocks ≡ first_chunks 16 n s → m ≡ of_bytes (get_or blocks i d) → b ≡ product (bits_xor 128 a m) h
     → ghash (n - i) h a (drop (16 * i) s) ≡ r → ghash (n - (i + 1)) h b (drop (16 * (i + 1)) s) ≡ r
-ghash_turn n i h a b m r s d blocks hi hs hm hb inv =
-    let k : ℕ = n - (i + 1) in
-    let e : suc k ≡ n - i = omega arith in
-    let f : 16 * i + 16 ≡ 16 * (i + 1) = omega arith in
+blocks_turn n i h a b m r s d blocks hi hs hm hb inv =
     let block : m ≡ of_bytes (take 16 (drop (16 * i) s)) = hm ∙ ap (λ xs. of_bytes xs) (ap (λ xs. get_or xs i d) hs ∙ block_at n i s d hi) in
-    ap₂ (λ j ys. ghash k h j ys) (hb ∙ ap (λ j. product (bits_xor 128 a j) h) block) (sym (drop_drops 16 (16 * i) (16 * (i + 1)) s f))
-    ∙ (sym (ghash_step k h a (drop (16 * i) s)) ∙ (ap (λ j. ghash j h a (drop (16 * i) s)) e ∙ inv))
+    ghash_turn n i h a b r s hi (hb ∙ ap (λ j. product (bits_xor 128 a j) h) block) inv
 
 pub ghash_end : (n i h a r : ℕ) (s : List ℕ) → n ≤ i → ghash (n - i) h a s ≡ r → a ≡ r
 ghash_end n i h a r s hi inv =

@@ -30,20 +30,28 @@ chosen true a b c d e f g h ha hb hc hd he hf hg hh = words_xor a b c d e f g h 
 chosen false a b c d e f g h ha hb hc hd he hf hg hh =
     ap₂ (λ k l. four_words k l (bit_xor c 0) (bit_xor d 0)) (xor_zero_r a) (xor_zero_r b) ∙ ap₂ (λ k l. four_words a b k l) (xor_zero_r c) (xor_zero_r d)
 
-pub words_add : (bit m a b c d e f g h : ℕ) → bit < 2 → (m + bit) % 2 ^ 32 ≡ 0 → Word m → Word a → Word b → Word c → Word d → Word e → Word f → Word g → Word h
+pub words_add_bit : (bit m a b c d e f g h : ℕ) → bit < 2 → (m + bit) % 2 ^ 32 ≡ 0 → Word m → Word a → Word b → Word c → Word d → Word e → Word f → Word g → Word h
     → four_words (bit_xor a (bit_and m e)) (bit_xor b (bit_and m f)) (bit_xor c (bit_and m g)) (bit_xor d (bit_and m h))
     ≡ pick (eqb bit 1) (bits_xor 128 (four_words a b c d) (four_words e f g h)) (four_words a b c d)
-words_add bit m a b c d e f g h ht hm wm ha hb hc hd he hf hg hh =
+words_add_bit bit m a b c d e f g h ht hm wm ha hb hc hd he hf hg hh =
     let t : Bool = eqb bit 1 in
     let keeps : (x : ℕ) → Word x → bit_and m x ≡ pick t x 0 = λ x hx. masked 32 bit m x ht hm wm hx in
     ap₂ (λ k l. four_words (bit_xor a k) (bit_xor b l) (bit_xor c (bit_and m g)) (bit_xor d (bit_and m h))) (keeps e he) (keeps f hf)
     ∙ (ap₂ (λ k l. four_words (bit_xor a (pick t e 0)) (bit_xor b (pick t f 0)) (bit_xor c k) (bit_xor d l)) (keeps g hg) (keeps h hh)
     ∙ chosen t a b c d e f g h ha hb hc hd he hf hg hh)
 
+-- the same, of a mask that is given
+pub words_add : (t : Bool) (m a b c d e f g h : ℕ) → m ≡ pick t 4294967295 0 → Word a → Word b → Word c → Word d → Word e → Word f → Word g → Word h
+    → four_words (bit_xor a (bit_and m e)) (bit_xor b (bit_and m f)) (bit_xor c (bit_and m g)) (bit_xor d (bit_and m h))
+    ≡ pick t (bits_xor 128 (four_words a b c d) (four_words e f g h)) (four_words a b c d)
+unfolding pick
+words_add true m a b c d e f g h hm ha hb hc hd he hf hg hh = let z : m ≡ 4294967295 = hm in words_add_bit 1 m a b c d e f g h (omega arith) (omega arith) (omega arith) ha hb hc hd he hf hg hh
+words_add false m a b c d e f g h hm ha hb hc hd he hf hg hh = let z : m ≡ 0 = hm in words_add_bit 0 m a b c d e f g h (omega arith) (omega arith) (omega arith) ha hb hc hd he hf hg hh
+
 -- a turn of a run
-pub run_turn : (j w from h z e y r : ℕ) → j < 32 → e ≡ times_power (from + j) h → y ≡ pick (eqb (bit_and (w / 2 ^ (31 - j)) 1) 1) (bits_xor 128 z e) z
+pub run_turn_bit : (j w from h z e y r : ℕ) → j < 32 → e ≡ times_power (from + j) h → y ≡ pick (eqb (bit_and (w / 2 ^ (31 - j)) 1) 1) (bits_xor 128 z e) z
     → product_steps (32 - j) w (times_power (from + j) h) z ≡ r → product_steps (32 - (j + 1)) w (times_power (from + (j + 1)) h) y ≡ r
-run_turn j w from h z e y r hj he hy inv =
+run_turn_bit j w from h z e y r hj he hy inv =
     let v : ℕ = times_power (from + j) h in
     let m : 32 - (j + 1) ≡ 31 - j = omega arith in
     let s : suc (31 - j) ≡ 32 - j = omega arith in
@@ -52,6 +60,10 @@ run_turn j w from h z e y r hj he hy inv =
     ap₂ (λ k l. product_steps k w l y) m (ap (λ k. times_power k h) t ∙ sym (times_power_more (from + j) h))
     ∙ (ap (λ k. product_steps (31 - j) w (times_x v) k) (hy ∙ ap₂ (λ q k. pick (eqb q 1) (bits_xor 128 z k) z) (low_bit (w / 2 ^ (31 - j))) he)
     ∙ (sym (product_steps_bit (31 - j) w v z p refl) ∙ (ap (λ k. product_steps k w v z) s ∙ inv)))
+
+pub run_turn : (j w from h z e y r : ℕ) → j < 32 → e ≡ times_power (from + j) h → y ≡ pick (eqb (w / 2 ^ (31 - j) % 2) 1) (bits_xor 128 z e) z
+    → product_steps (32 - j) w (times_power (from + j) h) z ≡ r → product_steps (32 - (j + 1)) w (times_power (from + (j + 1)) h) y ≡ r
+run_turn j w from h z e y r hj he hy inv = run_turn_bit j w from h z e y r hj he (hy ∙ ap (λ q. pick (eqb q 1) (bits_xor 128 z e) z) (sym (low_bit (w / 2 ^ (31 - j))))) inv
 
 -- one row more
 pub row_more : (a b c d : List ℕ) (i w x y z : ℕ) (F : ℕ → ℕ) → i < length a → i < length b → i < length c → i < length d

@@ -9,7 +9,7 @@ use Rattle.format.specs.Request.{field, pairs_bytes, short_pairs, data_keys_byte
 use Rattle.format.specs.Header as Hd
 use Rattle.format.specs.Header.{context_bytes, header_bytes}
 use Rattle.header.specs.Models.{pairs, data_keys}
-use Rattle.header.specs.Checked.{data_keys_length}
+use Rattle.header.specs.Checked.{context_length, data_keys_length}
 use Rattle.header.specs.declared.request.Pair.{Pair}
 use Rattle.header.specs.declared.request.EncryptedDataKey.{EncryptedDataKey}
 
@@ -92,6 +92,19 @@ is_given None = 0
 pub some_cond : {A : Type 0} (b : Bool) (x a : A) → Some a ≡ cond b (Some x) None → (b ≡ true) × (a ≡ x)
 some_cond true x a e = (refl, ap (λ o. given_or x o) e)
 some_cond false x a e = absurd (let z : ◌≡◌ {A = ℕ} 1 0 = ap (λ o. is_given o) e in omega arith)
+
+pub record ContextTold (ps : List Rq.Pair) (n : ℕ) : Type 0 where
+  pub long : n ≡ length (pairs_bytes ps)
+  pub fits : n ≤ 65533
+  pub short : short_pairs ps ≡ true
+
+pub context_told : (ps : List Rq.Pair) (n : ℕ) → Some n ≡ context_length ps → ContextTold ps n
+context_told ps n e =
+    let s = some_cond _ _ _ e in
+    let b = and_parts _ _ s.0 in
+    let l : 2 + length (pairs_bytes ps) ≤ 65535 = leb-true _ _ b.1 in
+    let e : n ≡ length (pairs_bytes ps) = s.1 in
+    record { long = e; fits = omega arith; short = (and_parts _ _ b.0).1 }
 
 pub record DataKeysTold (ks : List Rq.EncryptedDataKey) (n : ℕ) : Type 0 where
   pub long : n ≡ length (data_keys_bytes ks)

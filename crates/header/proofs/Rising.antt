@@ -1,5 +1,5 @@
 -- Names in rising order, told by each two neighbours.
-use Rattle.std.proofs.Common.{◌≡◌, ℕ, zero, suc, ◌+◌, ◌<◌, Bool, true, false, List, [], ◌∷◌, length, get_or, sym, refl, subst, arith}
+use Rattle.std.proofs.Common.{◌≡◌, ℕ, zero, suc, ◌+◌, ◌<◌, Bool, true, false, List, [], ◌∷◌, length, get_or, sym, refl, subst, arith, ◌&&◌}
 use Rattle.std.specs.List.{IsAllAdjacentAnswer}
 use Rattle.std.proofs.lemmas.Bool.{and_from, and_left, and_right}
 use Rattle.octets.specs.Bytes.{bytes_lt}
@@ -33,3 +33,10 @@ one_falls (p ∷ q ∷ ps) (suc k) l h = and_right (comes_before p q) _ (one_fal
 pub rising_told : (ps : List Pair) (r : Bool) → IsAllAdjacentAnswer (λ p q b. b ≡ comes_before p q) ps r → r ≡ rising (pairs ps)
 rising_told ps true h = sym (all_rise ps h)
 rising_told ps false h = sym (one_falls ps h.0 h.1 h.2)
+
+-- a conjunction whose first part is known
+pub and_goes_on : (a b c : Bool) → a ≡ (b && c) → true ≡ b → c ≡ a
+and_goes_on a b c e t = sym (simp (sym t) at e)
+
+pub and_stops : (a b c : Bool) → a ≡ (b && c) → false ≡ b → false ≡ a
+and_stops a b c e t = sym (simp (sym t) at e)

@@ -14,6 +14,9 @@ use octets::{Writer, less};
 // the pairs' bytes and two more are a field
 const MAX_PAIRS: usize = MAX_FIELD - 2;
 
+// each pair has four bytes at least, so that a longer list is refused before it is gone through
+const MOST_PAIRS: usize = MAX_PAIRS / 4;
+
 // whether each name comes before the next
 fn names_rise(pairs: &[Pair]) -> bool
     ensures { result ≡ rising (pairs_of pairs.now) }
@@ -38,6 +41,9 @@ impl<'c, 'n, 'v> Context<'c, 'n, 'v> {
         ensures value { option_map (λ c. c.pairs_len) result ≡ context_length (pairs_of pairs.now) }
         ensures same { IfSome result (λ c. c.pairs.now ≡ pairs.now) }
     {
+        if pairs.len() > MOST_PAIRS {
+            return None;
+        }
         if !names_rise(pairs) {
             return None;
         }

@@ -1,5 +1,6 @@
 -- A context and a whole header are their parts, read one after another.
-use Rattle.std.proofs.Common.{◌≡◌, ℕ, Bool, true, false, ◌&&◌, ltb, List, [], ◌∷◌, length, sym, refl, ap, ◌∙◌}
+use Rattle.std.proofs.Common.{◌≡◌, ℕ, ◌<◌, Bool, true, false, ◌&&◌, ltb, List, [], ◌∷◌, length, sym, refl, ap, ◌∙◌, subst, arith}
+use Rattle.std.proofs.lemmas.Bool.{lt-ltb, le-ltb, and_left, and_right, and_from}
 use Rattle.octets.specs.Bytes.{bytes_eq, of_bytes}
 use Rattle.octets.specs.Cut.{Cut, cut, and_then, guard, CutNumber}
 use Rattle.octets.proofs.Cuts.{the_cut, cut_parts, and_then_some, and_then_ext, and_then_assoc, guard-and_then, the_number}
@@ -9,45 +10,50 @@ use Rattle.format.specs.Reading as Rd
 use Rattle.format.specs.Reading.{ReadPairs, ReadDataKeys, is_empty, cut_field, read_pairs, read_context, read_data_keys, read_header}
 use Rattle.format.proofs.Steps.{and_then_gave, guard_gave}
 use Rattle.header_read.specs.Cuts.{CutEntries, listed, skipped, cut_entries, cut_counted, cut_pair, cut_data_key}
-use Rattle.header_read.specs.Parts.{start_part, frame_length_part}
-use Rattle.header_read.proofs.Steps.{pick_no}
-use Rattle.header_read.proofs.Listing.{counted, pairs_made, pairs_read, data_keys_made, data_keys_read}
+use Rattle.header_read.specs.Parts.{rising_rest, start_part, frame_length_part}
+use Rattle.header_read.proofs.Steps.{guard_yes, guard_no, guard_gave_none, guard_gave_one, First}
+use Rattle.header_read.proofs.Listing.{pairs_listed, data_keys_made, data_keys_read}
 
--- a context is a count of pairs whose names rise, and nothing behind them
+-- a context of so many pairs in these bytes
 abbrev kept : List ℕ → ReadPairs → List ReadPairs
 kept after ps = guard (is_empty ps.rest && (ltb 0 (length ps.pairs) && rising ps.pairs)) (record { pairs = ps.pairs; rest = after } ∷ [])
 
-abbrev pub risen : List ℕ → CutEntries Rq.Pair → List ReadPairs
-risen after ps = guard (is_empty ps.rest && rising ps.entries) (record { pairs = ps.entries; rest = after } ∷ [])
+abbrev pub context_of : List ℕ → ℕ → List ℕ → List ReadPairs
+context_of after n bs = and_then (read_pairs n bs) (kept after)
 
-abbrev so_many : List Rq.Pair → List ℕ → List (CutEntries Rq.Pair)
-so_many ps r = record { entries = ps; rest = r } ∷ []
+abbrev walked : ReadPairs → List (List ℕ)
+walked ps = guard (rising ps.pairs) (ps.rest ∷ [])
 
-kept_none : (b : Bool) (after : List ℕ) → [] ≡ and_then (guard b []) (risen after)
-unfolding and_then guard
-kept_none true after = refl
-kept_none false after = refl
-
-kept_some : (e b s : Bool) (ps : List Rq.Pair) (r after : List ℕ) → e ≡ is_empty r → s ≡ rising ps → guard (is_empty r && (b && rising ps)) (record { pairs = ps; rest = after } ∷ []) ≡ and_then (guard b (so_many ps r)) (risen after)
-unfolding and_then guard
-kept_some e true s ps r after i j = refl
-kept_some true false s ps r after i j = ap (λ t. guard (t && false) (record { pairs = ps; rest = after } ∷ [])) (sym i)
-kept_some false false s ps r after i j = ap (λ t. guard (t && false) (record { pairs = ps; rest = after } ∷ [])) (sym i)
-
-pairs_kept : (n : ℕ) (bs after : List ℕ) (rs : List (List ℕ)) → rs ≡ skipped cut_pair n bs
-    → and_then (and_then (and_then rs (so_many (listed cut_pair n bs))) pairs_made) (kept after) ≡ and_then (guard (ltb 0 n) (and_then rs (so_many (listed cut_pair n bs)))) (risen after)
+context_zero_of : (xs : List ReadPairs) (after : List ℕ) → First (λ ps. length ps.pairs ≡ 0) xs → [] ≡ and_then xs (kept after)
 unfolding and_then
-pairs_kept n bs after [] h = kept_none (ltb 0 n) after
-pairs_kept n bs after (r ∷ rs) h =
-    let ps = listed cut_pair n bs in
-    ap (λ k. guard (is_empty r && (ltb 0 k && rising ps)) (record { pairs = ps; rest = after } ∷ [])) (counted cut_pair n bs r rs h)
-    ∙ kept_some (is_empty r) (ltb 0 n) (rising ps) ps r after refl refl
+context_zero_of [] after h = refl
+context_zero_of (ps ∷ t) after h = guard_no _ _ (sym (and_right (is_empty ps.rest) _ (and_left (ltb 0 (length ps.pairs)) _ (le-ltb 0 _ (omega arith)))))
 
-pub context_read : (bs field rest : List ℕ) → (the_cut field rest ∷ []) ≡ cut_field bs → false ≡ is_empty field → and_then (cut_counted cut_pair field) (risen rest) ≡ read_context bs
-context_read bs field rest e f =
-    and_then_assoc (cut 2 field) _ _
-    ∙ and_then_ext (cut 2 field) _ _ (λ n. sym (ap (λ xs. and_then xs (kept rest)) (pairs_read (of_bytes n.front) n.rest) ∙ pairs_kept (of_bytes n.front) n.rest rest _ refl))
-    ∙ pick_no _ _ _ f ∙ and_then_some _ _ _ e
+pub context_zero : (n : ℕ) (bs after : List ℕ) → n ≡ 0 → [] ≡ context_of after n bs
+unfolding read_pairs
+context_zero n bs after e = let P : ℕ → Type 0 = λ k. [] ≡ context_of after k bs in subst P (sym e) (context_zero_of (read_pairs 0 bs) after refl)
+
+pub context_falls : (xs : List ReadPairs) (after : List ℕ) → [] ≡ and_then xs walked → [] ≡ and_then xs (kept after)
+unfolding and_then
+context_falls [] after e = refl
+context_falls (ps ∷ t) after e = guard_no _ _ (sym (and_right (is_empty ps.rest) _ (and_right (ltb 0 (length ps.pairs)) _ (guard_gave_none _ _ _ e))))
+
+pub context_goes_on : (xs : List ReadPairs) (end after : List ℕ) → (end ∷ []) ≡ and_then xs walked → false ≡ is_empty end → [] ≡ and_then xs (kept after)
+unfolding and_then
+context_goes_on [] end after e f = refl
+context_goes_on (ps ∷ t) end after e f = let s = guard_gave_one _ _ _ e in guard_no _ _ (sym (and_left (is_empty ps.rest) _ (ap is_empty (sym s.1) ∙ sym f)))
+
+context_some_of : (xs : List ReadPairs) (l : List Rq.Pair) (n : ℕ) (end after : List ℕ) → 0 < n → First (λ ps. (l ≡ ps.pairs) × (length ps.pairs ≡ n)) xs → (end ∷ []) ≡ and_then xs walked → true ≡ is_empty end → (record { pairs = l; rest = after } ∷ []) ≡ and_then xs (kept after)
+unfolding and_then
+context_some_of [] l n end after h f e t = absurd (let z : ◌≡◌ {A = ℕ} 0 1 = cc in omega arith)
+context_some_of (ps ∷ more) l n end after h f e t =
+    let s = guard_gave_one _ _ _ e in
+    let m = f.1 in
+    ap (λ k. record { pairs = k; rest = after } ∷ []) f.0
+    ∙ guard_yes _ _ (sym (and_from _ _ (ap is_empty (sym s.1) ∙ sym t) (and_from _ _ (lt-ltb 0 (length ps.pairs) (omega arith)) s.0)))
+
+pub context_some : (n : ℕ) (bs end after : List ℕ) → 0 < n → (end ∷ []) ≡ rising_rest n bs → true ≡ is_empty end → (record { pairs = listed cut_pair n bs; rest = after } ∷ []) ≡ context_of after n bs
+context_some n bs end after h e t = context_some_of (read_pairs n bs) (listed cut_pair n bs) n end after h (pairs_listed n bs) e t
 
 -- the frame length behind the content type
 abbrev pub frame_length_of : ℕ → List ℕ → List CutNumber

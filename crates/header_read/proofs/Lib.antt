@@ -1,4 +1,4 @@
 pub mod Steps
+pub mod Walk
 pub mod Listing
-pub mod Rising
 pub mod HeaderParts

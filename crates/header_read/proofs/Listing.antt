@@ -1,9 +1,11 @@
 -- Entries skipped and listed one after another.
-use Rattle.std.proofs.Common.{◌≡◌, ℕ, zero, suc, ltb, List, [], ◌∷◌, length, sym, refl, ap, ◌∙◌, arith}
+use Rattle.std.proofs.Common.{◌≡◌, ℕ, zero, suc, ltb, List, [], ◌∷◌, length, sym, refl, ap, ◌∙◌, subst, arith}
 use Rattle.octets.specs.Cut.{and_then, guard}
 use Rattle.octets.proofs.Cuts.{and_then_ext, and_then_assoc}
 use Rattle.format.specs.Request as Rq
 use Rattle.format.specs.Reading.{ReadPairs, ReadDataKeys, cut_field, read_pairs, read_data_keys}
+use Rattle.header_read.proofs.Steps.{First, first_and_then}
+use Rattle.header_read.proofs.Walk.{read_pairs_more, with_pair}
 use Rattle.header_read.specs.Cuts.{CutEntry, CutEntries, listed, skipped, cut_entries, cut_pair, cut_data_key}
 
 module _ {A : Type 0} (cut : List ℕ → List (CutEntry A)) where
@@ -96,3 +98,14 @@ data_keys_read =
     entries_read cut_data_key read_data_keys (λ ks r. record { encrypted_data_keys = ks; rest = r }) (λ k ks. record { encrypted_data_keys = k ∷ ks.encrypted_data_keys; rest = ks.rest }) (λ bs. refl)
     (λ n bs. sym (and_then_assoc (cut_field bs) _ _ ∙ and_then_ext (cut_field bs) _ _ (λ p. and_then_assoc (cut_field p.rest) _ _ ∙ and_then_ext (cut_field p.rest) _ _ (λ i. and_then_assoc (cut_field i.rest) _ _))))
     (λ k ks r. refl)
+
+-- what is read is what is listed, and as many
+each_pair : (n : ℕ) (xs : List (CutEntry Rq.Pair)) → ((bs : List ℕ) → First (λ ps. (listed cut_pair n bs ≡ ps.pairs) × (length ps.pairs ≡ n)) (read_pairs n bs)) → First (λ ps. (and_then xs (λ p. p.entry ∷ listed cut_pair n p.rest) ≡ ps.pairs) × (length ps.pairs ≡ suc n)) (and_then xs (λ p. and_then (read_pairs n p.rest) (λ ps. with_pair p.entry ps ∷ [])))
+unfolding and_then
+each_pair n [] h = tt
+each_pair n (p ∷ t) h = first_and_then (λ ps. (listed cut_pair n p.rest ≡ ps.pairs) × (length ps.pairs ≡ n)) _ (read_pairs n p.rest) _ (h p.rest) (λ ps e. (ap (λ l. p.entry ∷ l) e.0, ap suc e.1))
+
+pub pairs_listed : (n : ℕ) (bs : List ℕ) → First (λ ps. (listed cut_pair n bs ≡ ps.pairs) × (length ps.pairs ≡ n)) (read_pairs n bs)
+unfolding listed read_pairs
+pairs_listed zero bs = (refl, refl)
+pairs_listed (suc n) bs = subst (First (λ ps. (listed cut_pair (suc n) bs ≡ ps.pairs) × (length ps.pairs ≡ suc n))) (sym (read_pairs_more n bs)) (each_pair n (cut_pair bs) (λ r. pairs_listed n r))

@@ -47,3 +47,8 @@ abbrev pub cut_data_key : List ℕ → List (CutEntry Rq.EncryptedDataKey)
 cut_data_key bs =
     and_then (cut_field bs) (λ p. and_then (cut_field p.rest) (λ i. and_then (cut_field i.rest) (λ w.
     record { entry = record { provider_id = p.front; provider_info = i.front; ciphertext = w.front }; rest = w.rest } ∷ [])))
+
+-- what is left of bytes
+abbrev pub rests : Option (Bor (List ℕ)) → List (List ℕ)
+rests None = []
+rests (Some r) = r.now ∷ []

@@ -7,7 +7,8 @@ use Rattle.octets.specs.Cut.{Cut, cut, and_then, guard, CutNumber, word_cuts}
 use Rattle.format.specs.Request as Rq
 use Rattle.format.specs.Header as Hd
 use Rattle.format.specs.Reading as Rd
-use Rattle.format.specs.Reading.{ReadPairs}
+use Rattle.format.specs.Request.{rising}
+use Rattle.format.specs.Reading.{ReadPairs, read_pairs}
 use Rattle.header_read.specs.Cuts.{cut_pair, cut_data_key}
 use Rattle.header_read.specs.Cursor.{entries_in}
 use Rattle.header_read.specs.declared.entries.Entries.{Entries}
@@ -51,6 +52,10 @@ pub record FixedLengths (x : ReadHeader) : Type 0 where
 abbrev pub HasFixedLengths : Option ReadHeader → Type 0
 HasFixedLengths None = Unit {0}
 HasFixedLengths (Some x) = FixedLengths x
+
+-- what comes after n pairs whose names rise
+abbrev pub rising_rest : ℕ → List ℕ → List (List ℕ)
+rising_rest n bs = and_then (read_pairs n bs) (λ ps. guard (rising ps.pairs) (ps.rest ∷ []))
 
 -- the parts: start and id, content type and frame length
 abbrev pub start_part : List ℕ → List Cut

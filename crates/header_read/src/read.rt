@@ -1,21 +1,36 @@
 // A header, read from the front of a message.
 ghost use Rattle.std.specs.Prelude.{◌≡◌};
 ghost use Rattle.octets.specs.Cut.{cuts};
-ghost use Rattle.format.specs.Request.{rising};
 ghost use Rattle.format.specs.Reading.{read_context, read_header};
-ghost use Rattle.header_read.specs.Parts.{pairs_in, context_reads, start_part, frame_length_part, frame_length_reads, header_reads, HasFixedLengths};
+ghost use Rattle.header_read.specs.Cuts.{rests};
+ghost use Rattle.header_read.specs.Parts.{rising_rest, context_reads, start_part, frame_length_part, frame_length_reads, header_reads, HasFixedLengths};
 
-use crate::fields::cut_field;
+use crate::entries::Kind;
+use crate::fields::{PairKind, cut_field};
 use crate::types::{Context, EncryptedDataKeys, Header, ReadHeader};
 use header::suite::{FRAMED, START};
 use octets::{cut, cut_number, equal, less};
 use std::marker::PhantomData;
 
-// whether each name comes before the next
-fn names_rise(context: Context) -> bool
-    ensures { result ≡ rising (pairs_in context.entry) }
+// what comes after so many pairs; None if they aren't there, or at the first whose name doesn't come after the one before
+// One walk, with the last name beside it: a list that is cut first and gone through afterwards is read twice, and to its end where the
+// second name is wrong.
+fn skip_rising_pairs(count: usize, bytes: &[u8]) -> Option<&[u8]>
+    ensures { rests result ≡ rising_rest count bytes.now }
 {
-    context.pairs().is_sorted_by(|a, b| less(a.name, b.name))
+    let mut last: Option<&[u8]> = None;
+    let mut rest = bytes;
+    for _ in 0..count {
+        let (pair, after) = PairKind::cut_off(rest)?;
+        if let Some(name) = last {
+            if !less(name, pair.name) {
+                return None;
+            }
+        }
+        last = Some(pair.name);
+        rest = after;
+    }
+    Some(rest)
 }
 
 // the context, and what comes after: an empty field for no pair, or a field of a count and so many pairs, and no more
@@ -32,10 +47,19 @@ fn cut_context(bytes: &[u8]) -> Option<(Context<'_>, &[u8])>
         };
         return Some((none, rest));
     }
-    let (context, end) = Context::cut_counted(field)?;
-    if !end.is_empty() || !names_rise(context) {
+    let (count, pairs) = cut_number::<u16, _>(field)?;
+    if count == 0 {
         return None;
     }
+    let end = skip_rising_pairs(count as usize, pairs)?;
+    if !end.is_empty() {
+        return None;
+    }
+    let context = Context {
+        count: count as usize,
+        bytes: pairs,
+        kind: PhantomData,
+    };
     Some((context, rest))
 }
 

@@ -1,10 +1,9 @@
--- Byte strings compared: equality by what differs up to a place, and order as the library has it.
-use Rattle.std.proofs.Common.{◌≡◌, ℕ, suc, Ordering, Less, Equal, Greater, Some, cond, Option, ◌+◌, ◌<◌, ◌≤◌, Bool, true, false, ◌&&◌, ◌||◌, eqb, ltb, List, [], ◌∷◌, ◌++◌, length, get_or, take, sym, refl, ap, ◌∙◌, ap₂, ⊎_elim, arith, length-take-le, take_all}
-use Rattle.std.specs.Ordering.{is_some_and, is_lt, nat_cmp, as_partial_cmp, partial_ordering_then, partial_lt}
-use Rattle.std.specs.Cmp.Lexicographic.{slice_partial_cmp}
+-- Byte strings compared byte by byte: by what differs up to a place, and by what is left from a place on.
+use Rattle.std.proofs.Common.{◌≡◌, ℕ, suc, ◌+◌, ◌-◌, ◌<◌, ◌≤◌, Bool, true, false, ◌&&◌, ◌||◌, eqb, ltb, ◌⊎◌, List, [], ◌∷◌, ◌++◌, length, get_or, take, drop, sym, refl, ap, ◌∙◌, ap₂, inl, inr, ⊎_elim, arith, length-drop, length-take-le, take_all}
 use lib.Bits.{bit_or, bit_xor, or_add_and, xor_add_and, and_le_l, and_le_r, xor_self}
-use Rattle.std.proofs.lemmas.List.{take_more}
-use Rattle.std.proofs.lemmas.Bool.{eq-eqb, ne_eqb, and_from, and_left, and_right, cases_eq}
+use Rattle.std.proofs.lemmas.List.{take_more, drop_more}
+use Rattle.std.proofs.lemmas.Bool.{lt-ltb, le-ltb, eq-eqb, ne_eqb, and_from, and_left, and_right, cases_eq}
+use Rattle.std.proofs.lemmas.Bool.Decides.{nat_tests}
 use Rattle.octets.specs.Bytes.{bytes_eq, bytes_lt}
 
 -- differences joined by or are zero where all of them are
@@ -74,15 +73,36 @@ eq_lengths [] (y ∷ ys) h = refl
 eq_lengths (x ∷ xs) [] h = refl
 eq_lengths (x ∷ xs) (y ∷ ys) h = sym (and_right (eqb x y) _ (sym (eq_lengths xs ys (λ e. h (ap suc e)))))
 
--- the library's order of byte strings
-first_decides : (b c : Bool) (r : Option Ordering) → is_some_and is_lt (partial_ordering_then (Some (cond b Less (cond c Equal Greater))) r) ≡ (b || (c && is_some_and is_lt r))
-first_decides true c r = refl
-first_decides false true r = refl
-first_decides false false r = refl
-
-pub less_is : (xs ys : List ℕ) → partial_lt (slice_partial_cmp (as_partial_cmp nat_cmp)) xs ys ≡ bytes_lt xs ys
+-- the order of what is left from the i-th byte on
+lt_equal : (x : ℕ) (xs ys : List ℕ) → bytes_lt (x ∷ xs) (x ∷ ys) ≡ bytes_lt xs ys
 unfolding bytes_lt
-less_is [] [] = refl
-less_is [] (y ∷ ys) = refl
-less_is (x ∷ xs) [] = refl
-less_is (x ∷ xs) (y ∷ ys) = first_decides (ltb x y) (eqb x y) (slice_partial_cmp (as_partial_cmp nat_cmp) xs ys) ∙ ap (λ b. ltb x y || (eqb x y && b)) (less_is xs ys)
+lt_equal x xs ys = simp (le-ltb x x (omega arith), eq-eqb x x refl)
+
+lt_differ : (x y : ℕ) (xs ys : List ℕ) → (x ≡ y → ⊥) → bytes_lt (x ∷ xs) (y ∷ ys) ≡ ltb x y
+unfolding bytes_lt
+lt_differ x y xs ys n = simp (ne_eqb x y n) (or_false (ltb x y))
+  where
+    or_false : (b : Bool) → (b || false) ≡ b
+    or_false true = refl
+    or_false false = refl
+
+pub lt_more : (a b : List ℕ) (i : ℕ) → i < length a → i < length b → get_or a i 0 ≡ get_or b i 0 → bytes_lt (drop (i + 1) a) (drop (i + 1) b) ≡ bytes_lt (drop i a) (drop i b)
+lt_more a b i ha hb e = rw (drop_more a i 0 ha, drop_more b i 0 hb, e) (sym (lt_equal _ _ _))
+
+pub lt_here : (a b : List ℕ) (i : ℕ) → i < length a → i < length b → (get_or a i 0 ≡ get_or b i 0 → ⊥) → ltb (get_or a i 0) (get_or b i 0) ≡ bytes_lt (drop i a) (drop i b)
+lt_here a b i ha hb n = rw (drop_more a i 0 ha, drop_more b i 0 hb) (sym (lt_differ _ _ _ _ n))
+
+lt_ended : (a b : List ℕ) → (length a ≤ 0) ⊎ (length b ≤ 0) → ltb (length a) (length b) ≡ bytes_lt a b
+unfolding bytes_lt
+lt_ended [] [] h = refl
+lt_ended [] (y ∷ ys) h = lt-ltb _ _ (omega arith)
+lt_ended (x ∷ xs) [] h = le-ltb _ _ (omega arith)
+lt_ended (x ∷ xs) (y ∷ ys) h = absurd (⊎_elim (λ e. omega arith) (λ e. omega arith) h)
+
+ltb_from : (m n i : ℕ) → i ≤ m → i ≤ n → ltb m n ≡ ltb (m - i) (n - i)
+ltb_from m n i h k = grind (arith, nat_tests)
+
+pub lt_end : (a b : List ℕ) (i : ℕ) → i ≤ length a → i ≤ length b → (length a ≤ i) ⊎ (length b ≤ i) → ltb (length a) (length b) ≡ bytes_lt (drop i a) (drop i b)
+lt_end a b i ha hb e =
+    ltb_from (length a) (length b) i ha hb ∙ ap₂ ltb (sym (length-drop i a)) (sym (length-drop i b))
+    ∙ lt_ended (drop i a) (drop i b) (⊎_elim (λ h. inl (omega (arith, length-drop i a))) (λ h. inr (omega (arith, length-drop i b))) e)

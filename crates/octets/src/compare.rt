@@ -30,5 +30,12 @@ pub fn equal_fixed<const N: usize>(a: &[u8; N], b: &[u8; N]) -> bool
 pub fn less(a: &[u8], b: &[u8]) -> bool
     ensures value { result ≡ bytes_lt a.now b.now }
 {
-    a < b
+    let both = a.len().min(b.len());
+    // By places: the library's order of slices took half as long again at names of a few bytes.
+    for i in 0..both {
+        if a[i] != b[i] {
+            return a[i] < b[i];
+        }
+    }
+    a.len() < b.len()
 }

@@ -5,6 +5,7 @@ ghost use Rattle.octets.specs.Cut.{cut, cuts, cut_number, word_cuts};
 use crate::number::Word;
 
 // The first n bytes and the rest; None where there are fewer.
+#[tactic(auto, using(crate::proofs::Cuts::cut_checked, crate::proofs::Cuts::cut_none))]
 pub fn cut(bytes: &[u8], n: usize) -> Option<(&[u8], &[u8])>
     ensures value { cuts result ≡ cut n bytes.now }
 {
@@ -12,6 +13,7 @@ pub fn cut(bytes: &[u8], n: usize) -> Option<(&[u8], &[u8])>
 }
 
 // A big-endian number off the front and the rest; None where there are fewer bytes than it has.
+#[tactic(auto, using(crate::proofs::Cuts::number_cut_some, crate::proofs::Cuts::number_cut_none))]
 pub fn cut_number<T: Word<N>, const N: usize>(bytes: &[u8]) -> Option<(T, &[u8])>
     ensures value { word_cuts T.value result ≡ cut_number N bytes.now }
 {

@@ -9,7 +9,7 @@ use files::window::Window;
 use frames::FrameKind;
 use header_front::{HeaderFront, header_front};
 use opening::{OpenRefusal, Opener, Step};
-use programs::{FileResult, START_ROOM, TEXT_ROOM};
+use programs::{FRAME_ROOM, FileResult, START_ROOM, TEXT_ROOM};
 use std::fs::File;
 use std::io::Write;
 
@@ -54,6 +54,8 @@ pub fn no_header<'a>(start: &[u8], path: &'a str) -> Problem<'a> {
     refused(OpenRefusal::NoHeader)
 }
 
+// A call of its own, or the rooms of both passes would stand on the stack at once.
+#[inline(never)]
 fn pass_frames<'a, W: Write>(
     rt: &HostRuntime,
     command: OpenCommand<'a>,
@@ -66,10 +68,11 @@ fn pass_frames<'a, W: Write>(
     let window = Window::new(frame_length as usize + FrameKind::Final.overhead()).ok_or(
         Problem::LongFrames(command.input, frame_length),
     )?;
-    let source = Source::after(rt, file, header, window).reading(command.input)?;
+    let source = Source::after(rt, file, header).reading(command.input)?;
     let mut frames = Frames {
         command,
         source,
+        bytes: window,
         text: [0; TEXT_ROOM],
     };
     let passed = frames.pass(opener, out);
@@ -78,11 +81,12 @@ fn pass_frames<'a, W: Write>(
     Ok(frames.source.digest())
 }
 
-// A message's frames as they are opened, with room for the text of one.
+// A message's frames as they are opened, with room for the longest of them and for its text.
 #[derive(Drop)]
 struct Frames<'a> {
     command: OpenCommand<'a>,
     source: Source,
+    bytes: Window<FRAME_ROOM>,
     text: [u8; TEXT_ROOM],
 }
 
@@ -101,21 +105,22 @@ impl<'a> Frames<'a> {
     }
 
     // The next frame's text handed on, and its length; None at the end. Opener and `out` are lent anew at each call, since no struct holds
-    // them lent. The source holds as many bytes as the longest frame has, so a
-    // frame stands there whole or the file ends.
+    // them lent. The window has room for as many bytes as the longest frame has, so a frame stands there whole or the file ends.
     fn pass_next<W: Write>(
         &mut self,
         opener: &mut Opener,
         out: &mut W,
     ) -> Result<Option<usize>, Problem<'a>> {
-        self.source.fill().reading(self.command.input)?;
-        let at_end = self.source.is_at_end();
+        self.source
+            .fill(&mut self.bytes)
+            .reading(self.command.input)?;
+        let at_end = !self.bytes.is_full();
         let step = opener
-            .next(self.source.bytes(), at_end, &mut self.text)
+            .next(self.bytes.held(), at_end, &mut self.text)
             .map_err(refused)?;
         let frame = match step {
             Step::Regular(frame) | Step::Final(frame) => frame,
-            // not asked for where the source holds the longest frame; then the turns end it
+            // not asked for where the window holds the longest frame; then the turns end it
             Step::NeedMore => return Ok(Some(0)),
             Step::End => return Ok(None),
         };
@@ -123,7 +128,7 @@ impl<'a> Frames<'a> {
             .text
             .get(..frame.len)
             .ok_or(refused(OpenRefusal::OutTooShort))?;
-        self.source.take(frame.taken);
+        self.source.take(&mut self.bytes, frame.taken);
         out.write_all(text).writing(self.command.output)?;
         Ok(Some(frame.len))
     }

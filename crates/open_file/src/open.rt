@@ -5,7 +5,7 @@ use cli::context::Context;
 use commands::open::OpenCommand;
 use commands::problem::Problem;
 use header_read::read_header;
-use programs::{Output, START_ROOM};
+use programs::{KeyUse, Output, START_ROOM};
 use std::io;
 
 // A command, and the pairs that the message's context has to hold.
@@ -15,9 +15,13 @@ pub struct Asked<'a> {
     pub wanted: Context<'a>,
 }
 
-impl<'a> Asked<'a> {
+impl<'a> KeyUse for Asked<'a> {
+    type Made = Result<(), Problem<'a>>;
+
+    ghost gives = { λ _ _ _. Unit {0} };
+
     // Opens INPUT into OUTPUT, and prints its context. Where anything fails, OUTPUT is as it was.
-    pub fn open(&self, rt: &HostRuntime, key: &[u8; 32]) -> Result<(), Problem<'a>> {
+    fn run(&self, rt: &HostRuntime, key: &[u8; 32]) -> Result<(), Problem<'a>> {
         let mut start = [0; START_ROOM];
         let digest = pass(rt, self.command, key, &mut start, &mut io::sink())?;
         let read = read_header(&start).ok_or(Problem::Changed(self.command.input))?;
@@ -25,7 +29,9 @@ impl<'a> Asked<'a> {
         self.write_text(rt, key, &digest)?;
         print_context(rt, read.header.context)
     }
+}
 
+impl<'a> Asked<'a> {
     // The second time, with every check again, since the file may have changed.
     fn write_text(
         &self,

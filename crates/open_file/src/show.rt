@@ -16,6 +16,8 @@ struct Shown<'m> {
     message_len: u64,
 }
 
+// A call of its own, or its room would stand on the stack below what opens, too.
+#[inline(never)]
 pub fn print_header<'a>(rt: &HostRuntime, path: &'a str) -> Result<(), Problem<'a>> {
     let message_len = input_len(rt, path)?;
     let mut start = [0; START_ROOM];

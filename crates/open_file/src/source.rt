@@ -6,51 +6,33 @@ use std::fs::File;
 use std::io;
 use std::io::{BufReader, Seek, SeekFrom};
 
+// The window stands beside it: a struct that held both would be moved, with all its room, as it is made.
 #[derive(Drop)]
 pub struct Source {
     file: BufReader<File>,
-    bytes: Window<FRAME_ROOM>,
     hasher: Hasher,
 }
 
 impl Source {
-    // The file from its header's end on, as much at a time as the window has room for; the header's bytes were taken.
-    pub fn after(
-        rt: &HostRuntime,
-        mut file: File,
-        header: &[u8],
-        bytes: Window<FRAME_ROOM>,
-    ) -> io::Result<Source> {
+    // The file from its header's end on; the header's bytes were taken.
+    pub fn after(rt: &HostRuntime, mut file: File, header: &[u8]) -> io::Result<Source> {
         file.seek(SeekFrom::Start(header.len() as u64))?;
         let mut hasher = Hasher::new();
         hasher.update(header);
         let file = BufReader::new(rt.alloc(), file)?;
-        Ok(Source {
-            file,
-            bytes,
-            hasher,
-        })
+        Ok(Source { file, hasher })
     }
 
-    // Reads on behind the bytes that are there already.
-    pub fn fill(&mut self) -> io::Result<()> {
-        self.bytes.fill(&mut self.file)
-    }
-
-    pub fn bytes(&self) -> &[u8] {
-        self.bytes.held()
-    }
-
-    // Whether the file ended, so that nothing comes after the bytes that are there.
-    pub fn is_at_end(&self) -> bool {
-        !self.bytes.is_full()
+    // Reads on behind the bytes that are there already, as much as the window has room for.
+    pub fn fill(&mut self, bytes: &mut Window<FRAME_ROOM>) -> io::Result<()> {
+        bytes.fill(&mut self.file)
     }
 
     // Takes so many of the bytes that are there.
-    pub fn take(&mut self, n: usize) {
-        let held = self.bytes.held();
+    pub fn take(&mut self, bytes: &mut Window<FRAME_ROOM>, n: usize) {
+        let held = bytes.held();
         self.hasher.update(&held[..n.min(held.len())]);
-        self.bytes.take(n);
+        bytes.take(n);
     }
 
     // The hash of all that was taken.

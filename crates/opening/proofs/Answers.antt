@@ -1,5 +1,6 @@
 -- What an answer says of the lent bytes: the text and then zeros, or zeros.
-use Rattle.std.proofs.Common.{◌≡◌, ℕ, ◌-◌, ◌<◌, ◌≤◌, true, List, ◌++◌, length, Ok, Err, Result, MatchResult, refl, sym, ap, ◌∙◌, arith, length-drop, length-take-le, drop_at}
+use Rattle.std.proofs.Common.{◌≡◌, ℕ, ◌-◌, ◌<◌, ◌≤◌, true, List, ◌++◌, length, Ok, Err, Result, MatchResult, refl, sym, ap, ◌∙◌, arith, length-drop, length-take-le, drop_at, subst}
+use native.Mathlib.Nat.{sub-zero}
 use borrow.Rule.Slice.PartMut.{put_mid}
 use lib.ListN as L
 use Rattle.std.proofs.lemmas.List.{append-nil, drop_all}
@@ -22,6 +23,13 @@ answer_short room k bs h = sym (pick_true _ _ _ (lt-ltb room (length bs) h))
 
 pub answer_enough : (room : ℕ) (k bs : List ℕ) (a : Opening.Opened) → length bs ≤ room → a ≡ opening k bs → a ≡ open_answer room k bs
 answer_enough room k bs a h e = e ∙ sym (pick_false _ _ _ (le-ltb room (length bs) h))
+
+-- a refusal doesn't depend on the lent bytes, and leaves zeros
+pub refused_whatever : (r : Result Opened OpenRefusal) (e : OpenRefusal) (a b : List ℕ) → r ≡ Err e → answer r a ≡ answer r b
+refused_whatever r e a b h = ap (λ q. answer q a) h ∙ sym (ap (λ q. answer q b) h)
+
+pub refused_zeros : (r : Result Opened OpenRefusal) (e : OpenRefusal) (out : List ℕ) (n : ℕ) → r ≡ Err e → out ≡ repeat n 0 → L.drop (text_len r) out ≡ repeat (n - text_len r) 0
+refused_zeros r e out n h z = ap (λ q. L.drop (text_len q) out) h ∙ z ∙ ap (λ k. repeat k 0) (sym (sub-zero n)) ∙ sym (ap (λ q. repeat (n - text_len q) 0) h)
 
 -- what is written behind the text leaves the answer, and zeros from there on are all that is left
 pub text_known : {P : Opened → Type 0} (r : Result Opened OpenRefusal) (n : ℕ) → ((o : Opened) → P o → n ≡ o.len) → MatchResult r P (λ e. n ≡ 0) → n ≡ text_len r
@@ -53,3 +61,6 @@ accounted rs k bs text context g b e = what_opens_was_sealed rs k bs text contex
 pub accounts : (rs : List Request) (k bs : List ℕ) (r : Result Opened OpenRefusal) (out : List ℕ) → all_good rs ≡ true → all_bytes bs ≡ true → answer r out ≡ opening k bs → Accounts rs k bs r out
 accounts rs k bs (Ok o) out g b e = accounted rs k bs (L.take o.len out) (pairs_in o.context) g b (sym e)
 accounts rs k bs (Err e) out g b h = tt
+
+pub refused_accounts : (rs : List Request) (k bs : List ℕ) (r : Result Opened OpenRefusal) (e : OpenRefusal) (out : List ℕ) → r ≡ Err e → Accounts rs k bs r out
+refused_accounts rs k bs r e out h = subst (λ q. Accounts rs k bs q out) (sym h) tt

@@ -1,43 +1,47 @@
 // The key of a command.
 ghost use Rattle.std.specs.Prelude.{ℕ, List, IfOk};
-ghost use Rattle.std.specs.Fn.{FnOnceReturnsAt};
 
 use crate::file_result::FileResult;
 use cli::key::parse_key;
 use commands::problem::Problem;
 use files::read::{read_start, wipe};
 
-// What run makes with the key in a file, which is wiped afterwards. Wiping goes by hand here and in both programs: no bound on a function
+// What a command does with its key.
+pub trait KeyUse {
+    type Made;
+
+    // what may come of a key
+    ghost gives: { Self → List ℕ → Self.Made → Type 0 };
+
+    fn run(&self, rt: &HostRuntime, key: &[u8; 32]) -> Self::Made
+        ensures given { gives self.now key.now result };
+}
+
+// What is made with the key in a file, which is wiped afterwards. Wiping goes by hand here and in both programs: no bound on a function
 // names a const parameter, as one for any length of bytes would.
-pub fn with_key<'a, T, F: FnOnce(&[u8; 32]) -> T>(
+pub fn with_key<'a, U: KeyUse>(
     rt: &HostRuntime,
     path: &'a str,
-    run: F,
-) -> Result<T, Problem<'a>>
-where
-    F: Drop,
-    requires { F.IsAlwaysCallable run }
-    ensures ran { (key : List ℕ) × IfOk result (FnOnceReturnsAt F.FnOnce run key) }
+    key_use: &U,
+) -> Result<U::Made, Problem<'a>>
+    ensures ran { (key : List ℕ) × IfOk result (U.gives key_use.now key) }
 {
     let mut key = [0; 32];
-    let made = run_with(rt, path, &mut key, run);
+    let made = run_with(rt, path, &mut key, key_use);
     wipe(rt, &mut key);
     made
 }
 
-fn run_with<'a, T, F: FnOnce(&[u8; 32]) -> T>(
+fn run_with<'a, U: KeyUse>(
     rt: &HostRuntime,
     path: &'a str,
     key: &mut [u8; 32],
-    run: F,
-) -> Result<T, Problem<'a>>
-where
-    F: Drop,
-    requires { F.IsAlwaysCallable run }
-    ensures { IfOk result (FnOnceReturnsAt F.FnOnce run key.new) }
+    key_use: &U,
+) -> Result<U::Made, Problem<'a>>
+    ensures { IfOk result (U.gives key_use.now key.new) }
 {
     read_key(rt, path, key)?;
-    Ok(run(key))
+    Ok(key_use.run(rt, key))
 }
 
 // The key in a file, into lent bytes; what was read is wiped.

@@ -11,7 +11,7 @@ mod tool;
 
 pub use file_result::FileResult;
 pub use input::input_len;
-pub use key::{read_key, with_key};
+pub use key::{KeyUse, read_key, with_key};
 pub use output::{Output, check_output, finish_output, say};
 pub use rooms::{FRAME_ROOM, START_ROOM, TEXT_ROOM};
 pub use tool::{Tool, run_tool};

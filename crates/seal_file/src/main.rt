@@ -15,7 +15,7 @@ use commands::seal::{SealCommand, seal_command};
 use header::HeaderRequest;
 use inputs::{encrypted_keys, message_id, pairs_of, read_data_keys, text_len};
 use message::{Sealed, seal_file};
-use programs::{FileResult, Tool, check_output, run_tool, with_key};
+use programs::{FileResult, KeyUse, Tool, check_output, run_tool, with_key};
 use std::process::ExitCode;
 
 struct StrongboxSeal;
@@ -54,7 +54,7 @@ Seals the file INPUT into a message, the file OUTPUT.
             data_keys,
             text_len,
         };
-        let sealed = with_key(rt, command.key, |key| asked.seal(rt, key))??;
+        let sealed = with_key(rt, command.key, &asked)??;
         report(rt, sealed)
     }
 }
@@ -72,9 +72,13 @@ struct Asked<'a> {
     text_len: u64,
 }
 
-impl<'a> Asked<'a> {
+impl<'a> KeyUse for Asked<'a> {
+    type Made = Result<Sealed, Problem<'a>>;
+
+    ghost gives = { λ _ _ _. Unit {0} };
+
     // Reads what else the command names, and seals.
-    fn seal(&self, rt: &HostRuntime, key: &[u8; 32]) -> Result<Sealed, Problem<'a>> {
+    fn run(&self, rt: &HostRuntime, key: &[u8; 32]) -> Result<Sealed, Problem<'a>> {
         let words = self.data_keys.as_slice();
         let ciphertexts = read_data_keys(rt, words)?;
         let pairs = pairs_of(rt, self.context.pairs())?;

@@ -1,5 +1,5 @@
 -- The numbers of refusals, where what they hang on is known.
-use Rattle.std.proofs.Common.{◌≡◌, ℕ, ◌<◌, ◌≤◌, Bool, true, false, eqb, List, [], length, Some, None, Ok, Err, Option, Result, sym, refl, ap, ◌∙◌, ⊎_elim, arith}
+use Rattle.std.proofs.Common.{◌≡◌, ℕ, ◌<◌, ◌≤◌, Bool, true, false, eqb, List, [], length, Some, None, Ok, Err, Option, Result, sym, refl, ap, ◌∙◌, ⊎_elim, arith, cond}
 use Rattle.std.proofs.lemmas.Bool.{eq-eqb, ne_eqb, le-leb, lt-leb, eqb-true, eqb-false, cases_Bool, cond-true}
 use Rattle.std.specs.Prelude.{IsOk}
 use Rattle.std.specs.Option.{ok_or}
@@ -90,3 +90,7 @@ start_no_room key h room k e l =
 pub start_passes : (key : List ℕ) (h : HeaderRequest) (room : ℕ) → length key ≡ 32 → 0 ≡ header_refusal (request_with [] h []) → length (start (request_with key h [])) ≤ room → 0 ≡ start_number key h room
 start_passes key h room k e l =
     sym (pick_true _ _ _ (eq-eqb (length key) 32 k) ∙ passes_on (header_refusal (request_with [] h [])) _ (sym e) ∙ pick_true _ _ _ (le-leb (length (start (request_with key h []))) room l))
+
+-- a frame that has no room
+pub no_room : {E : Type 0} (a b c d : Bool) (e f g i : E) → a ≡ false → b ≡ true → c ≡ true → false ≡ d → ◌≡◌ {A = Result (Unit {0}) E} (Err f) (cond a (Err e) (cond b (cond c (cond d (Ok tt) (Err f)) (Err g)) (Err i)))
+no_room a b c d e f g i p q r s = simp (p, q, r, sym s)

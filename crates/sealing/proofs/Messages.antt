@@ -1,5 +1,5 @@
 -- Messages in parts: the start and the frames, how long they are, and that sums of lengths don't wrap.
-use Rattle.std.proofs.Common.{◌≡◌, ℕ, suc, ◌+◌, ◌-◌, ◌*◌, ◌/◌, ◌<◌, ◌≤◌, true, List, [], ◌++◌, length, take, drop, sym, refl, ap, ◌∙◌, subst, ap₂, append_assoc, div-lt_iff_lt-mul, arith, length-append, length-drop, length-take-le}
+use Rattle.std.proofs.Common.{◌≡◌, ℕ, suc, ◌+◌, ◌-◌, ◌*◌, ◌/◌, ◌<◌, ◌≤◌, true, List, [], ◌++◌, length, take, drop, sym, refl, ap, ◌∙◌, subst, ap₂, append_assoc, div-lt_iff_lt-mul, arith, length-append, length-drop, length-take-le, mul-le-mul_right}
 use borrow.Rule.Slice.PartMut.{put_mid}
 use Rattle.std.proofs.lemmas.Bool.{and_parts, and_from, leb-true, ltb-true, le-leb, lt-ltb, cond-true}
 use Rattle.octets.specs.Splice.{Written}
@@ -29,9 +29,12 @@ pub message_is : (r : Rq.Request) → start r ++ frames (suc (length r.text)) (s
 unfolding sealed_message start
 message_is r = append_assoc (header_bytes (header_of r)) _ _
 
-pub start_is : (key : List ℕ) (h : HeaderRequest) (t : List ℕ) (k : Keys) → KeysFor key h.id.now k → asked_bytes h k.commitment ++ header_tag (key_of k.cipher.key) (asked_bytes h k.commitment) ≡ start (request_with key h t)
+pub start_is : (key : List ℕ) (h : HeaderRequest) (t cipher c : List ℕ) → cipher ≡ sealing_key key h.id.now → c ≡ commitment key h.id.now → asked_bytes h c ++ header_tag cipher (asked_bytes h c) ≡ start (request_with key h t)
 unfolding start header_tag
-start_is key h t k p = ap₂ (λ a b. asked_bytes h b ++ header_tag a (asked_bytes h b)) p.sealing_key p.commitment
+start_is key h t cipher c p q = ap₂ (λ a b. asked_bytes h b ++ header_tag a (asked_bytes h b)) p q
+
+pub start_of_keys : (key : List ℕ) (h : HeaderRequest) (t : List ℕ) (k : Keys) → KeysFor key h.id.now k → asked_bytes h k.commitment ++ header_tag (key_of k.cipher.key) (asked_bytes h k.commitment) ≡ start (request_with key h t)
+start_of_keys key h t k p = start_is key h t _ _ p.sealing_key p.commitment
 
 pub start_any_text : (key : List ℕ) (h : HeaderRequest) (t u : List ℕ) → start (request_with key h t) ≡ start (request_with key h u)
 unfolding start
@@ -57,9 +60,13 @@ tagged old mid out front tag cipher end at k w ek e v =
     let P : List ℕ → Type 0 = λ l. Written old 0 (front ++ l) at out in
     subst P (e ∙ ap (λ l. header_tag cipher l) there) (written_then old mid out front tag 0 end at w v)
 
-pub start_written : (key : List ℕ) (h : HeaderRequest) (t : List ℕ) (k : Keys) (old out : List ℕ) (n : ℕ) → KeysFor key h.id.now k
+pub start_written : (key : List ℕ) (h : HeaderRequest) (t cipher c old out : List ℕ) (n : ℕ) → cipher ≡ sealing_key key h.id.now → c ≡ commitment key h.id.now
+    → Written old 0 (asked_bytes h c ++ header_tag cipher (asked_bytes h c)) n out → Written old 0 (start (request_with key h t)) n out
+start_written key h t cipher c old out n p q w = let P : List ℕ → Type 0 = λ l. Written old 0 l n out in subst P (start_is key h t cipher c p q) w
+
+pub start_of_keys_written : (key : List ℕ) (h : HeaderRequest) (t : List ℕ) (k : Keys) (old out : List ℕ) (n : ℕ) → KeysFor key h.id.now k
     → Written old 0 (asked_bytes h k.commitment ++ header_tag (key_of k.cipher.key) (asked_bytes h k.commitment)) n out → Written old 0 (start (request_with key h t)) n out
-start_written key h t k old out n p w = let P : List ℕ → Type 0 = λ l. Written old 0 l n out in subst P (start_is key h t k p) w
+start_of_keys_written key h t k old out n p w = start_written key h t _ _ old out n p.sealing_key p.commitment w
 
 -- the whole written: a start, and the frames over the rest
 pub whole : (r : Rq.Request) (old mid part first : List ℕ) (at k : ℕ) → Written old 0 first at mid → first ≡ start r → length old ≡ length (sealed_message r) → length part ≡ k
@@ -81,9 +88,12 @@ start_as_checked key h t c g = length_start key h t ∙ ap (λ n. n + 16) (sym (
 at_most : (a b f n : ℕ) → a ≡ b → n ≡ b + f → a ≤ n
 at_most a b f n p q = omega arith
 
-pub start_room : (key : List ℕ) (h : HeaderRequest) (t : List ℕ) (k : Keys) (room : ℕ) → KeysFor key h.id.now k → 0 < h.frame_length → room ≡ length (sealed_message (request_with key h t)) → length (asked_bytes h k.commitment) + 16 ≤ room
-start_room key h t k room p low l =
-    at_most _ _ _ room (ap (λ x. length (asked_bytes h x) + 16) p.commitment ∙ sym (length_start key h t)) (l ∙ length_message (request_with key h t) low)
+pub start_room : (key : List ℕ) (h : HeaderRequest) (t c : List ℕ) (room : ℕ) → c ≡ commitment key h.id.now → 0 < h.frame_length → room ≡ length (sealed_message (request_with key h t)) → length (asked_bytes h c) + 16 ≤ room
+start_room key h t c room p low l =
+    at_most _ _ _ room (ap (λ x. length (asked_bytes h x) + 16) p ∙ sym (length_start key h t)) (l ∙ length_message (request_with key h t) low)
+
+pub start_of_keys_room : (key : List ℕ) (h : HeaderRequest) (t : List ℕ) (k : Keys) (room : ℕ) → KeysFor key h.id.now k → 0 < h.frame_length → room ≡ length (sealed_message (request_with key h t)) → length (asked_bytes h k.commitment) + 16 ≤ room
+start_of_keys_room key h t k room p low l = start_room key h t _ room p.commitment low l
 
 pub frames_room : (r : Rq.Request) (first : List ℕ) (at room : ℕ) → at ≡ 0 + length first → first ≡ start r → 0 < r.frame_length → room ≡ length (sealed_message r) → room - at ≡ frames_length (length r.text) r.frame_length
 frames_room r first at room n p low l =
@@ -125,3 +135,6 @@ header_short h c e t =
     let i32 = p.id in
     let kf = keys.fits in
     omega arith
+
+pub product_short : (a b : ℕ) → a < 4294967296 → b < 4294967296 → a * b ≤ 18446744065119617025
+product_short a b p q = let m : a * b ≤ 4294967295 * b = mul-le-mul_right b (let l : a ≤ 4294967295 = omega arith in l) in omega arith

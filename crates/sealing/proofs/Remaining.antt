@@ -1,10 +1,11 @@
 -- Frames sealed in a loop: those written so far and those of the text that is left are all frames.
-use Rattle.std.proofs.Common.{◌≡◌, ℕ, suc, ◌+◌, ◌-◌, ◌*◌, ◌/◌, ◌<◌, ◌≤◌, List, ◌++◌, length, sym, ap, ◌∙◌, ap₂, append_assoc, add-mul, mul-le-mul_right, arith, length-drop, drop-drop}
+use Rattle.std.proofs.Common.{◌≡◌, ℕ, suc, ◌+◌, ◌-◌, ◌*◌, ◌/◌, ◌<◌, ◌≤◌, List, ◌++◌, length, sym, ap, ◌∙◌, ap₂, append_assoc, add-mul, mul-le-mul_right, arith, length-drop, drop-drop, false, ◌&&◌, eqb, ltb, lt_of_mul-lt-mul_right}
 use borrow.Rule.Slice.PartMut.{put_mid}
 use lib.ListN as L
 use Rattle.std.proofs.Math.Nat.{div-mul-le_self}
 use Rattle.std.proofs.lemmas.List.{take_rest, drop_all, append-nil}
 use Rattle.std.proofs.lemmas.Slice.{take-put_mid}
+use Rattle.std.proofs.lemmas.Bool.{both_ways, and_from, lt-ltb, eq-eqb}
 use Rattle.format.specs.Message.{frames}
 use Rattle.frames.specs.Frame.{regular_frame, final_frame}
 use Rattle.sealing.specs.Whole.{frames_length}
@@ -42,6 +43,10 @@ place text size i n sealed p e d h =
     ap-le : n ≡ (text - 1) / size → (text - 1) / size * size ≤ text - 1 → n * size ≤ text - 1
     ap-le q m = rw q m
 
+-- a count that is at its end
+pub at_last : (done regular : ℕ) → done ≤ regular → regular ≤ done → done ≡ regular
+at_last done regular h k = omega arith
+
 -- the frames of what is left after i regular ones
 abbrev pub left : List ℕ → List ℕ → List ℕ → ℕ → ℕ → List ℕ
 left key id text size i = frames (suc (length (L.drop (i * size) text))) key id size (i + 1) (L.drop (i * size) text)
@@ -68,3 +73,14 @@ left_end key id text all out part size i at k m h l em ek room e w =
     let some : length rest ≡ length text - i * size = length-drop (i * size) text in
     let whole : part ≡ left key id text size i = e ∙ ap (λ n. final_frame key id (i + 1) (L.take n rest)) em ∙ ap (final_frame key id (i + 1)) (take_rest text (i * size)) ∙ frames_last (length rest) key id rest size (i + 1) (omega arith) in
     ap (λ b. L.take at out ++ (part ++ b)) (drop_all k (L.drop at out) (omega (arith, length-drop at out))) ∙ ap (λ l. L.take at out ++ l) (append-nil part ∙ whole) ∙ w
+
+-- numbers of frames
+pub number_more : (n from size text : ℕ) → from + size ≡ n * size → size < text - from → text ≤ 4294967295 * size → n < 4294967295
+number_more n from size text e h f = lt_of_mul-lt-mul_right size (omega arith)
+
+pub number_next : (n from size : ℕ) → from + size ≡ n * size → from + size + size ≡ (n + 1) * size
+number_next n from size e = let m = add-mul n 1 size in omega arith
+
+-- a final frame that fits isn't refused
+pub final_fits : (text room : ℕ) → false ≡ (ltb text 4294967296 && eqb room (text + 40)) → text < 4294967296 → room ≡ text + 40 → ⊥
+final_fits text room e p q = both_ways _ (sym e) (and_from _ _ (lt-ltb text 4294967296 p) (eq-eqb room (text + 40) q))

@@ -1,5 +1,5 @@
--- One more piece of a message that fills the block and goes on.
-use Rattle.std.proofs.Common.{◌≡◌, ℕ, zero, suc, ◌+◌, ◌-◌, ◌*◌, ◌/◌, ◌%◌, ◌^◌, ◌≤◌, List, ◌++◌, length, take, drop, fold, sym, ap, ◌∙◌, ap₂, suc-add, zero-add, add-zero, arith}
+-- One more piece of a message: it stays within the block, or it fills the block and goes on.
+use Rattle.std.proofs.Common.{◌≡◌, ℕ, zero, suc, ◌+◌, ◌-◌, ◌*◌, ◌/◌, ◌%◌, ◌^◌, ◌<◌, ◌≤◌, List, ◌++◌, length, take, drop, fold, sym, refl, ap, ◌∙◌, ap₂, suc-add, zero-add, add-zero, arith}
 use borrow.Rule.Slice.PartMut.{put_mid}
 use Rattle.std.specs.Simd.{first_chunks}
 use Rattle.std.proofs.lemmas.List.{append_assoc, append-nil, length-append, length-take-le, length-drop, take-append-drop, take-append-le, drop-append-le, nil_from_length, drop_all, take_all}
@@ -11,7 +11,7 @@ use Rattle.sha512.specs.Held.{Held}
 use Rattle.sha512.specs.declared.stream.Stream.{Stream}
 use Rattle.sha512.proofs.Chunks.{hash_blocks_is}
 
-hash_blocks-append : (a b : ℕ) (s xs ys : List ℕ) → length xs ≡ 128 * a → hash_blocks (a + b) s (xs ++ ys) ≡ hash_blocks b (hash_blocks a s xs) ys
+pub hash_blocks-append : (a b : ℕ) (s xs ys : List ℕ) → length xs ≡ 128 * a → hash_blocks (a + b) s (xs ++ ys) ≡ hash_blocks b (hash_blocks a s xs) ys
 unfolding hash_blocks
 hash_blocks-append zero b s xs ys h = ap₂ (λ n zs. hash_blocks n s (zs ++ ys)) (zero-add b) (nil_from_length xs h)
 hash_blocks-append (suc a) b s xs ys h =
@@ -31,6 +31,26 @@ hash_blocks_front n s xs ys h = ap (λ k. hash_blocks k s (xs ++ ys)) (sym (add-
 counted_more : (t n : ℕ) (m bytes : List ℕ) → t ≡ length m % 2 ^ 128 → n ≡ (t + length bytes) % 2 ^ 128 → n ≡ length (m ++ bytes) % 2 ^ 128
 counted_more t n m bytes e h = omega (arith, length-append m bytes)
 
+pub held_within : {initial m : List ℕ} {s s' : Stream} (bytes ys : List ℕ) (k : ℕ) → Held initial s m → length s.block ≡ 128
+    → length bytes < 128 - s.total % 128 → ys ≡ bytes
+    → s'.state ≡ s.state → s'.block ≡ put_mid (s.total % 128) k s.block ys → s'.total ≡ (s.total + length bytes) % 2 ^ 128
+    → Held initial s' (m ++ bytes)
+held_within {m = m} {s = s} {s' = s'} bytes ys k t l lb ey es eb et =
+    let used : ℕ = s.total % 128 in
+    let u : s'.total % 128 ≡ used + length bytes = omega arith in
+    let v : s'.total % 128 ≡ used + length ys = u ∙ ap (λ (xs : List ℕ). used + length xs) (sym ey) in
+    record {
+      front = t.front;
+      count = t.count;
+      whole = t.whole;
+      parts = ap (λ (xs : List ℕ). xs ++ bytes) t.parts ∙ append_assoc t.front (take used s.block) bytes
+          ∙ ap (λ (xs : List ℕ). t.front ++ xs)
+          (sym (ap (take (s'.total % 128)) eb ∙ take-put_mid used k s.block ys (s'.total % 128) v (omega arith)
+          ∙ ap (λ (xs : List ℕ). take used s.block ++ xs) ey));
+      hashed = es ∙ t.hashed;
+      counted = counted_more s.total s'.total m bytes t.counted et;
+    }
+
 -- the block once it is full
 full_block : (used : ℕ) (block ys : List ℕ) → length block ≡ 128 → used ≤ 128 → put_mid used (128 - used) block ys ≡ take used block ++ ys
 full_block used block ys l h =
@@ -44,7 +64,7 @@ one_more initial s front b a e l lb =
     ap (compress_block s) (sym (take_is 128 b ∙ take_all 128 b (omega arith))) ∙ ap (λ x. hash_blocks 1 x b) e
     ∙ sym (hash_blocks-append a 1 initial front b l)
 
-pub held_beyond : {initial m : List ℕ} {s s' : Stream} (bytes ys rest zs full : List ℕ) (chunks : List (List ℕ)) (used k : ℕ) → Held initial s m → length s.block ≡ 128
+pub held_chunks : {initial m : List ℕ} {s s' : Stream} (bytes ys rest zs full : List ℕ) (chunks : List (List ℕ)) (used k : ℕ) → Held initial s m → length s.block ≡ 128
     → used ≡ s.total % 128 → 128 - used ≤ length bytes
     → ys ≡ take (128 - used) bytes → rest ≡ drop (128 - used) bytes
     → full ≡ compress_block s.state (put_mid used (128 - used) s.block ys)
@@ -52,7 +72,7 @@ pub held_beyond : {initial m : List ℕ} {s s' : Stream} (bytes ys rest zs full 
     → s'.state ≡ fold compress_block full chunks
     → s'.block ≡ put_mid 0 k (put_mid used (128 - used) s.block ys) zs → s'.total ≡ (s.total + length bytes) % 2 ^ 128
     → Held initial s' (m ++ bytes)
-held_beyond {initial} {m} {s} {s'} bytes ys rest zs full chunks used k t l eu lb ey er ef ec ez es eb et =
+held_chunks {initial} {m} {s} {s'} bytes ys rest zs full chunks used k t l eu lb ey er ef ec ez es eb et =
     let room : ℕ = 128 - used in
     let b : List ℕ = take used s.block ++ ys in
     let a : ℕ = length rest / 128 in
@@ -85,6 +105,23 @@ held_beyond {initial} {m} {s} {s'} bytes ys rest zs full chunks used k t l eu lb
           ∙ ap (hash_blocks (t.count + 1 + a) initial) both ∙ hash_blocks_front (t.count + 1 + a) initial _ (drop w rest) l6;
       counted = counted_more s.total s'.total m bytes t.counted et;
     }
+
+-- the same, of the blocks as one text
+pub held_beyond : {initial m : List ℕ} {s s' : Stream} (bytes ys zs full rest : List ℕ) (w k : ℕ) → Held initial s m → length s.block ≡ 128
+    → 128 - s.total % 128 ≤ length bytes
+    → ys ≡ take (128 - s.total % 128) bytes → full ≡ compress_block s.state (put_mid (s.total % 128) (128 - s.total % 128) s.block ys)
+    → rest ≡ drop (128 - s.total % 128) bytes → w ≡ length rest / 128 * 128
+    → s'.state ≡ hash_blocks (length (take w rest) / 128) full (take w rest) → zs ≡ drop w rest
+    → s'.block ≡ put_mid 0 k (put_mid (s.total % 128) (128 - s.total % 128) s.block ys) zs → s'.total ≡ (s.total + length bytes) % 2 ^ 128
+    → Held initial s' (m ++ bytes)
+held_beyond {initial} {m} {s} {s'} bytes ys zs full rest w k t l lb ey ef er ew es ez eb et =
+    let a : ℕ = length rest / 128 in
+    let l4 : length (take w rest) ≡ w = length-take-le w rest (omega arith) in
+    let d : length (take w rest) / 128 ≡ a = omega arith in
+    let cut : hash_blocks a full (take w rest) ≡ hash_blocks a full rest
+    = sym (hash_blocks_front a full (take w rest) (drop w rest) (omega arith)) ∙ ap (hash_blocks a full) (take-append-drop w rest) in
+    held_chunks bytes ys rest zs full (first_chunks 128 a rest) (s.total % 128) k t l refl lb ey er ef refl (ez ∙ ap (λ n. drop n rest) ew)
+    (es ∙ ap (λ n. hash_blocks n full (take w rest)) d ∙ cut ∙ hash_blocks_is a full rest) eb et
 
 -- where the message ends with a block, nothing waits
 pub held_whole : {initial m : List ℕ} {s : Stream} → Held initial s m → length m % 128 ≡ 0 → s.state ≡ hash_blocks (length m / 128) initial m

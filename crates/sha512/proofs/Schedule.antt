@@ -8,7 +8,7 @@ use Rattle.sha512.specs.Words.{add, small_sigma0, small_sigma1}
 use Rattle.sha512.specs.Sha512.{extend_words, round, rounds, add_words}
 
 -- the k-th from the end of the first t
-nth_back : (xs : List ℕ) (t k m : ℕ) → t ≤ L.length xs → k + m + 1 ≡ t → nth (reversed (L.take t xs)) k ≡ L.get_or xs m 0
+pub nth_back : (xs : List ℕ) (t k m : ℕ) → t ≤ L.length xs → k + m + 1 ≡ t → nth (reversed (L.take t xs)) k ≡ L.get_or xs m 0
 nth_back xs t k m h e =
     let n : L.length (L.take t xs) ≡ t = length-take-le t xs h in
     let lt : k < L.length (L.take t xs) = omega arith in

@@ -1,42 +1,50 @@
 // Whole messages and their headers, made by another implementation: one case a line.
 use crate::ciphers::all_zero;
-use crate::requests::{Fixed, Lists, header_request};
+use crate::requests::{Fixed, OwnedDataKey, OwnedLists, OwnedPair, header_request};
 use crate::words::Words;
 use anyhow::ensure;
-use header::{EncryptedDataKey, Pair, Request};
+use header::Request;
 use header_read::ReadHeader;
 use opening::{OpenRefusal, Opened};
 
 pub fn header_case(words: &mut Words) -> anyhow::Result<bool> {
-    let (message, expected) = words.read::<(&[u8], &str)>()?;
-    match (strongbox::read_header(message), expected) {
+    let (message, expected) = words.read::<(Vec<u8>, &str)>()?;
+    match (strongbox::read_header(message.as_slice()), expected) {
         (Some(read), "is") => header_is(read, words),
         (None, "none") => Ok(true),
         _ => Ok(false),
     }
 }
 
-// The parts of a header that was read, with its tag and how much comes after, as the words say them.
-fn header_is<'w>(read: ReadHeader<'w>, words: &mut Words<'w>) -> anyhow::Result<bool> {
+// The parts of a header that was read, with its tag and how much comes after, as the words say them. What a word says is let go before the
+// next is read.
+fn header_is(read: ReadHeader, words: &mut Words) -> anyhow::Result<bool> {
     let header = read.header;
-    let (id, frame_length, commitment, tag) = words.read::<(&[u8], u64, &[u8], &[u8])>()?;
-    let (rest, context, data_keys) = words.read::<(u64, Vec<Pair>, Vec<EncryptedDataKey>)>()?;
-    Ok(
-        header.id == id
-            && u64::from(header.frame_length) == frame_length
-            && header.commitment == commitment
-            && read.tag == tag
-            && read.rest.len() as u64 == rest
-            && header.context.pairs().eq(context)
-            && header.encrypted_data_keys.data_keys().eq(data_keys),
-    )
+    let id = words.read::<Vec<u8>>()?.as_slice() == header.id;
+    let frame_length = words.read::<u64>()? == u64::from(header.frame_length);
+    let commitment = words.read::<Vec<u8>>()?.as_slice() == header.commitment;
+    let tag = words.read::<Vec<u8>>()?.as_slice() == read.tag;
+    let rest = words.read::<u64>()? == read.rest.len() as u64;
+    let context = header.context.pairs().eq(
+        words
+            .read::<Vec<OwnedPair>>()?
+            .iter()
+            .map(|pair| pair.lend()),
+    );
+    let data_keys = header.encrypted_data_keys.data_keys().eq(
+        words
+            .read::<Vec<OwnedDataKey>>()?
+            .iter()
+            .map(|key| key.lend()),
+    );
+    Ok(id && frame_length && commitment && tag && rest && context && data_keys)
 }
 
 // Opened, or refused with the number and the frame that are expected; what is lent holds the text and zeros, or zeros.
 pub fn open_case(words: &mut Words) -> anyhow::Result<bool> {
-    let (key, lent, message) = words.read::<(&[u8; 32], usize, &[u8])>()?;
+    let (key, lent, message) = words.read::<([u8; 32], usize, Vec<u8>)>()?;
     let mut out = vec![in words.heap; 170u8; lent]?;
-    let answer = strongbox::open(key, message, out.as_mut_slice());
+    let answer = strongbox::open(&key, message.as_slice(), out.as_mut_slice());
     match (answer, words.read()?) {
         (Ok(opened), "is") => opened_is(opened, out.as_slice(), words),
         (Err(refusal), "refused") => refused_is(refusal, out.as_slice(), words),
@@ -44,9 +52,16 @@ pub fn open_case(words: &mut Words) -> anyhow::Result<bool> {
     }
 }
 
-fn opened_is<'w>(opened: Opened<'w>, out: &[u8], words: &mut Words<'w>) -> anyhow::Result<bool> {
-    let (text, context) = words.read::<(&[u8], Vec<Pair>)>()?;
-    Ok(opened.len == text.len() && text_and_zeros(text, out) && opened.context.pairs().eq(context))
+fn opened_is(opened: Opened, out: &[u8], words: &mut Words) -> anyhow::Result<bool> {
+    let (text, context) = words.read::<(Vec<u8>, Vec<OwnedPair>)>()?;
+    Ok(
+        opened.len == text.len()
+            && text_and_zeros(text.as_slice(), out)
+            && opened
+                .context
+                .pairs()
+                .eq(context.iter().map(|pair| pair.lend())),
+    )
 }
 
 fn text_and_zeros(text: &[u8], out: &[u8]) -> bool {
@@ -63,8 +78,9 @@ fn refused_is(refusal: OpenRefusal, out: &[u8], words: &mut Words) -> anyhow::Re
 pub fn length_case(words: &mut Words) -> anyhow::Result<bool> {
     let fixed = words.read::<Fixed>()?;
     ensure!(fixed.key.len() == 32, "bytes of another length");
-    let (text_len, lists) = words.read::<(u64, Lists)>()?;
-    let told = match strongbox::message_len(header_request(fixed, &lists), text_len) {
+    let (text_len, owned) = words.read::<(u64, OwnedLists)>()?;
+    let lists = owned.lend(words.heap)?;
+    let told = match strongbox::message_len(header_request(&fixed, &lists), text_len) {
         Ok(length) => ("is", length),
         Err(refusal) => ("refused", u64::from(refusal.number())),
     };
@@ -73,11 +89,12 @@ pub fn length_case(words: &mut Words) -> anyhow::Result<bool> {
 
 // Sealed into as many bytes as are lent, or as the message has; a refusal leaves them as they were.
 pub fn seal_case(words: &mut Words) -> anyhow::Result<bool> {
-    let (fixed, room, text, lists) = words.read::<(Fixed, &str, &[u8], Lists)>()?;
+    let (fixed, room, text, owned) = words.read::<(Fixed, &str, Vec<u8>, OwnedLists)>()?;
+    let lists = owned.lend(words.heap)?;
     let request = Request {
-        key: fixed.key,
-        header: header_request(fixed, &lists),
-        text,
+        key: fixed.key.as_slice(),
+        header: header_request(&fixed, &lists),
+        text: text.as_slice(),
     };
     sealed_is(request, room_for(request, room)?, words)
 }
@@ -94,7 +111,10 @@ fn room_for(request: Request, room: &str) -> anyhow::Result<usize> {
 fn sealed_is(request: Request, room: usize, words: &mut Words) -> anyhow::Result<bool> {
     let mut out = vec![in words.heap; 0u8; room]?;
     match strongbox::seal(request, out.as_mut_slice()) {
-        Ok(()) => Ok(words.read::<(&str, &[u8])>()? == ("is", out.as_slice())),
+        Ok(()) => {
+            let (expected, message) = words.read::<(&str, Vec<u8>)>()?;
+            Ok(expected == "is" && message.as_slice() == out.as_slice())
+        }
         Err(refusal) => {
             let told = ("refused", u64::from(refusal.number()));
             Ok(words.read::<(&str, u64)>()? == told && all_zero(out.as_slice()))

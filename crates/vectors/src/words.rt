@@ -1,52 +1,28 @@
 // The words of a line, one after the other, and what they say.
 ghost use Rattle.std.specs.Prelude.{◌<◌, IfSome};
 
-use anyhow::Context;
+use anyhow::{Context, bail};
 use std::alloc::{AllocError, Global};
-use std::slice;
+use std::str::Split;
 
-// A word, and the bytes that it says: hexadecimal digits, or `-` for none.
-#[derive(Drop)]
-pub struct Word<'t> {
-    text: &'t str,
-    bytes: Option<Vec<u8>>,
-}
-
-impl<'t> Word<'t> {
-    fn of(heap: Global, text: &'t str) -> Result<Word<'t>, AllocError> {
-        let bytes = unhex(heap, text)?;
-        Ok(Word { text, bytes })
-    }
-
-    // Those of a whole line.
-    pub fn all(heap: Global, line: &'t str) -> Result<Vec<Word<'t>>, AllocError> {
-        line.split(' ')
-            .map(|text| Word::of(heap, text))
-            .try_collect(heap)
-    }
-}
-
-// The words that are left of a line.
+// The words that are left of a line. Each is cut off and made into what it says when it is read: what no case asks for costs nothing.
 #[derive(Drop)]
 pub struct Words<'w> {
     pub heap: Global,
-    left: slice::Iter<'w, Word<'w>>,
+    left: Split<'w, char>,
 }
 
 impl<'w> Words<'w> {
-    pub fn of(heap: Global, words: &'w [Word<'w>]) -> Words<'w> {
+    pub fn of(heap: Global, line: &'w str) -> Words<'w> {
         Words {
             heap,
-            left: words.iter(),
+            left: line.split(' '),
         }
     }
 
-    fn next(&mut self) -> anyhow::Result<&'w Word<'w>> {
-        self.left.next().context("a word is missing")
-    }
-
     pub fn read<T: FromWords<'w>>(&mut self) -> anyhow::Result<T> {
-        T::from_words(self)
+        // Not handed on as it came: a result with room for an error is large, and would be moved whole at each word.
+        Ok(T::from_words(self)?)
     }
 }
 
@@ -57,13 +33,16 @@ pub trait FromWords<'w>: Sized + Drop {
 
 impl<'w> FromWords<'w> for &'w str {
     fn from_words(words: &mut Words<'w>) -> anyhow::Result<&'w str> {
-        Ok(words.next()?.text)
+        let Some(word) = words.left.next() else {
+            bail!("a word is missing");
+        };
+        Ok(word)
     }
 }
 
 impl<'w> FromWords<'w> for u64 {
     fn from_words(words: &mut Words<'w>) -> anyhow::Result<u64> {
-        Ok(words.next()?.text.parse::<u64>()?)
+        Ok(words.read::<&str>()?.parse::<u64>()?)
     }
 }
 
@@ -79,22 +58,23 @@ impl<'w> FromWords<'w> for usize {
     }
 }
 
-impl<'w> FromWords<'w> for &'w [u8] {
-    fn from_words(words: &mut Words<'w>) -> anyhow::Result<&'w [u8]> {
-        let word = words.next()?;
-        let why = if word.text.len() % 2 == 0 {
-            "not a hexadecimal digit"
-        } else {
-            "half a byte"
-        };
-        word.bytes.as_deref().context(why)
+// Hexadecimal digits, or `-` for no bytes.
+impl<'w> FromWords<'w> for Vec<u8> {
+    fn from_words(words: &mut Words<'w>) -> anyhow::Result<Vec<u8>> {
+        let word = words.read::<&str>()?;
+        match unhex(words.heap, word)? {
+            Some(bytes) => Ok(bytes),
+            None if word.len() % 2 == 0 => bail!("not a hexadecimal digit"),
+            None => bail!("half a byte"),
+        }
     }
 }
 
 // Bytes of a length that is known: keys, nonces, tags.
-impl<'w, const N: usize> FromWords<'w> for &'w [u8; N] {
-    fn from_words(words: &mut Words<'w>) -> anyhow::Result<&'w [u8; N]> {
-        <&[u8; N]>::try_from(words.read::<&[u8]>()?)
+impl<'w, const N: usize> FromWords<'w> for [u8; N] {
+    fn from_words(words: &mut Words<'w>) -> anyhow::Result<[u8; N]> {
+        let bytes = words.read::<Vec<u8>>()?;
+        <[u8; N]>::try_from(bytes.as_slice())
             .ok()
             .context("bytes of another length")
     }

@@ -3,7 +3,7 @@ use Rattle.std.proofs.lemmas.Iterator.{YieldsList-from_slice, IsFirst-from_posit
 use Rattle.octets.specs.Bytes.{bytes_lt}
 use Rattle.cli.specs.declared.context.Pair.{Pair}
 use Rattle.cli.specs.Context.{pair_of, with_pair}
-use Rattle.cli.proofs.Pairs.{IsPlace, first_or_end, named, named_twice, put_there, rising_with, below, not_below}
+use Rattle.cli.proofs.Pairs.{IsPlace, first_or_end, named, named_twice, put_there, rising_with}
 use Rattle.cli.proofs.context.add_pair.Goals as goal
 use Rattle.cli.proofs.context.add_pair.Goals.{After-unwrap_or-place, else-place-len-via-then-place-len+else-eq, else-place-len-via-else-place-len}
 
@@ -13,7 +13,7 @@ placed c =
     let l : c.len.result ≡ length c.deref.result.now = search rules in
     rw (c.unwrap_or-place.ensures, l, sym c.deref.ensures.value) (first_or_end n c.deref.result.now c.position.result
     (IsFirst-from_position _ _ c.position.result (λ (q : Pair). bytes_lt q.name.now n ≡ false) (λ (q : Pair). bytes_lt q.name.now n ≡ true) c.position.ensures.ran (YieldsList-from_slice c.deref.result.now c.iter.ensures.rest)
-    (λ x q k. not_below _ _ (search rules)) (λ x q k. (search rules, below _ _ (search rules)))))
+    (λ x q k. search rules) (λ x q k. (search rules, search rules))))
 
 pub returns-then-eq : goal.returns-then-eq
 returns-then-eq c =

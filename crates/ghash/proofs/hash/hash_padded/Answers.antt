@@ -8,7 +8,7 @@ use Rattle.ghash.specs.Field.{product}
 use Rattle.ghash.specs.Ghash.{ghash}
 use Rattle.ghash.specs.Element.{value}
 use Rattle.ghash.specs.Table.{hash_key_of}
-use Rattle.ghash.proofs.Blocks.{ghash_turn, ghash_end, padded_whole, padded_last}
+use Rattle.ghash.proofs.Blocks.{blocks_turn, ghash_end, padded_whole, padded_last}
 use Rattle.ghash.proofs.hash.hash_padded.Goals as goal
 
 pub loop-block-init : goal.loop-block-init
@@ -18,7 +18,7 @@ loop-block-init c =
 
 pub loop-block-preserved : goal.loop-block-preserved
 loop-block-preserved c =
-    ghash_turn (length c.args.bytes.now / 16) c.loop-block.block-index (hash_key_of c.args.table.now) (value c.loop-block.s) (value c.hash_block-s.result) (value c.from_bytes.result) _
+    blocks_turn (length c.args.bytes.now / 16) c.loop-block.block-index (hash_key_of c.args.table.now) (value c.loop-block.s) (value c.hash_block-s.result) (value c.from_bytes.result) _
     c.args.bytes.now _ c.as_chunks.result.0.now (omega arith) c.as_chunks.ensures.front c.from_bytes.ensures.value c.hash_block-s.ensures.value c.loop-block.invariant
 
 pub returns-then-is_empty : goal.returns-then-is_empty

@@ -1,27 +1,28 @@
-use Rattle.std.proofs.Common.{sym, ap, ◌∙◌}
-use Rattle.std.proofs.lemmas.Bool.{and_left, and_right, and_from}
-use Rattle.octets.proofs.Cuts.{and_then_some, and_then_none}
-use Rattle.format.specs.Reading.{is_empty}
+use Rattle.std.proofs.Common.{ap, ◌∙◌, arith}
+use Rattle.octets.proofs.Cuts.{and_then_some, number_some}
+use Rattle.format.specs.Reading.{read_pairs}
 use Rattle.header_read.specs.Parts.{context_reads}
-use Rattle.header_read.proofs.Steps.{guard_yes, guard_no}
-use Rattle.header_read.proofs.HeaderParts.{risen, context_read}
+use Rattle.header_read.proofs.Steps.{pick_no}
+use Rattle.header_read.proofs.HeaderParts.{context_of, context_zero, context_falls, context_goes_on, context_some}
 use Rattle.header_read.proofs.read.cut_context.Goals as goal
-use Rattle.header_read.proofs.read.cut_context.Goals.{then-not-is_empty-via-then-not-is_empty, then-not-is_empty-via-else-not-is_empty+then-not-names_rise}
 
-pub returns-in_err-context : goal.returns-in_err-context
-returns-in_err-context c =
-    ap context_reads c.from_residual-in_err-context.ensures ∙ and_then_none _ (risen c.in_ok-field.rest.now) c.in_err-context.ensures.value
-    ∙ context_read _ _ _ c.in_ok-field.ensures.value c.if-is_empty.ensures
+pub returns-then-count-eq0 : goal.returns-then-count-eq0
+returns-then-count-eq0 c =
+    context_zero c.in_ok-count.count c.in_ok-count.pairs.now c.in_ok-field.rest.now c.if-count-eq0.true
+    ∙ number_some 2 _ _ _ (context_of c.in_ok-field.rest.now) c.in_ok-count.ensures.value ∙ pick_no _ _ _ c.if-is_empty.ensures ∙ and_then_some _ _ _ c.in_ok-field.ensures.value
+
+pub returns-in_err-end : goal.returns-in_err-end
+returns-in_err-end c =
+    ap context_reads c.from_residual-in_err-end.ensures
+    ∙ context_falls (read_pairs c.in_ok-count.count c.in_ok-count.pairs.now) c.in_ok-field.rest.now c.in_err-end.ensures
+    ∙ number_some 2 _ _ _ (context_of c.in_ok-field.rest.now) c.in_ok-count.ensures.value ∙ pick_no _ _ _ c.if-is_empty.ensures ∙ and_then_some _ _ _ c.in_ok-field.ensures.value
 
 pub returns-then-not-is_empty : goal.returns-then-not-is_empty
 returns-then-not-is_empty c =
-    elim c.then-not-is_empty.branch [
-      | then-not-is_empty-via-then-not-is_empty w ↦ guard_no _ _ (sym (and_left (is_empty c.in_ok-context.end.now) _ (sym w.if-not-is_empty.ensures)))
-      | then-not-is_empty-via-else-not-is_empty+then-not-names_rise w ↦ guard_no _ _ (sym (and_right (is_empty c.in_ok-context.end.now) _ (sym w.if-not-names_rise.ensures)))
-    ]
-    ∙ and_then_some _ _ (risen c.in_ok-field.rest.now) c.in_ok-context.ensures.value ∙ context_read _ _ _ c.in_ok-field.ensures.value c.if-is_empty.ensures
+    context_goes_on (read_pairs c.in_ok-count.count c.in_ok-count.pairs.now) _ c.in_ok-field.rest.now c.in_ok-end.ensures c.if-not-is_empty.ensures
+    ∙ number_some 2 _ _ _ (context_of c.in_ok-field.rest.now) c.in_ok-count.ensures.value ∙ pick_no _ _ _ c.if-is_empty.ensures ∙ and_then_some _ _ _ c.in_ok-field.ensures.value
 
 pub returns : goal.returns
 returns c =
-    guard_yes _ _ (sym (and_from _ _ (sym c.if-not-is_empty.ensures) (sym c.if-not-names_rise.ensures)))
-    ∙ and_then_some _ _ (risen c.in_ok-field.rest.now) c.in_ok-context.ensures.value ∙ context_read _ _ _ c.in_ok-field.ensures.value c.if-is_empty.ensures
+    context_some c.in_ok-count.count c.in_ok-count.pairs.now _ c.in_ok-field.rest.now (omega arith) c.in_ok-end.ensures c.if-not-is_empty.ensures
+    ∙ number_some 2 _ _ _ (context_of c.in_ok-field.rest.now) c.in_ok-count.ensures.value ∙ pick_no _ _ _ c.if-is_empty.ensures ∙ and_then_some _ _ _ c.in_ok-field.ensures.value

@@ -5,7 +5,7 @@ use Rattle.header.specs.Models.{request_with}
 use Rattle.header.proofs.Lengths.{some_cond}
 use Rattle.header.proofs.Refusals.{numbers_positive, header_passed}
 use Rattle.sealing.proofs.Answered.{start_no_key, start_refused, start_no_room, start_passes}
-use Rattle.sealing.proofs.Messages.{start_as_checked, start_written, header_short}
+use Rattle.sealing.proofs.Messages.{start_as_checked, start_of_keys_written, header_short}
 use Rattle.sealing.proofs.state.Sealer.begin.Goals as goal
 
 pub returns-in_err-key-clause-value : goal.returns-in_err-key-clause-value
@@ -43,6 +43,6 @@ returns c =
       value = start_passes c.args.key.now c.args.header (length c.args.out.now) (eqb-true _ _ k.0) c.in_ok-checked.ensures.value (omega arith);
       written = (
         record { key_long = eqb-true _ _ k.0; passed = sym c.in_ok-checked.ensures.value; cipher = keys.sealing_key; id = keys.id; frame_length = refl; number = refl; unfinished = refl },
-        start_written c.args.key.now c.args.header [] _ _ _ _ keys c.write_start-len.ensures,
+        start_of_keys_written c.args.key.now c.args.header [] _ _ _ _ keys c.write_start-len.ensures,
       );
     }
