@@ -30,7 +30,7 @@ impl<T: Drop> From<AllocFailed<T>> for AddError {
 
 // Puts a pair among pairs in any order, before the first whose name isn't below its own; it is refused where that one has its name.
 // The library's search from the front is right for any order, where one that halves would be for pairs in order alone. Names are
-// compared as bytes by `less`, which is quicker at short names than the order of texts.
+// compared as bytes by `less`, which takes fewer steps at short names than the order of texts.
 pub fn add_pair<'a>(pairs: &mut Vec<Pair<'a>>, pair: Pair<'a>) -> Result<(), AddError>
     ensures value { Adds (pair_of pair.entry) (map pair_of pairs.old.items) result (map pair_of pairs.new.items) }
 {

@@ -31,7 +31,7 @@ pub fn less(a: &[u8], b: &[u8]) -> bool
     ensures value { result ≡ bytes_lt a.now b.now }
 {
     let both = a.len().min(b.len());
-    // By places: the library's order of slices took half as long again at names of a few bytes.
+    // By places: the library's order of slices took half as long again where much is alike.
     for i in 0..both {
         if a[i] != b[i] {
             return a[i] < b[i];

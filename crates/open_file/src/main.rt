@@ -52,7 +52,7 @@ Opens the message INPUT into the file OUTPUT, and prints its encryption context.
         // A message is gone through twice, which only a regular file allows.
         input_len(rt, command.input)?;
         let asked = Asked { command, wanted };
-        with_key(rt, command.key, &asked)?
+        with_key(rt, command.key, asked)?
     }
 }
 

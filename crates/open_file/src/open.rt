@@ -20,8 +20,10 @@ impl<'a> KeyUse for Asked<'a> {
 
     ghost gives = { λ _ _ _. Unit {0} };
 
-    // Opens INPUT into OUTPUT, and prints its context. Where anything fails, OUTPUT is as it was.
-    fn run(&self, rt: &HostRuntime, key: &[u8; 32]) -> Result<(), Problem<'a>> {
+    // Opens INPUT into OUTPUT, and prints its context. Where anything fails, OUTPUT is as it was. A call of its own, or its room would
+    // stand on the stack as the key is read.
+    #[inline(never)]
+    fn run(self, rt: &HostRuntime, key: &[u8; 32]) -> Result<(), Problem<'a>> {
         let mut start = [0; START_ROOM];
         let digest = pass(rt, self.command, key, &mut start, &mut io::sink())?;
         let read = read_header(&start).ok_or(Problem::Changed(self.command.input))?;

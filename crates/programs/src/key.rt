@@ -7,24 +7,24 @@ use commands::problem::Problem;
 use files::read::{read_start, wipe};
 
 // What a command does with its key.
-pub trait KeyUse {
+pub trait KeyUse: Sized {
     type Made;
 
     // what may come of a key
     ghost gives: { Self → List ℕ → Self.Made → Type 0 };
 
-    fn run(&self, rt: &HostRuntime, key: &[u8; 32]) -> Self::Made
-        ensures given { gives self.now key.now result };
+    fn run(self, rt: &HostRuntime, key: &[u8; 32]) -> Self::Made
+        ensures given { gives self key.now result };
 }
 
 // What is made with the key in a file, which is wiped afterwards. Wiping goes by hand here and in both programs: no bound on a function
 // names a const parameter, as one for any length of bytes would.
-pub fn with_key<'a, U: KeyUse>(
+pub fn with_key<'a, U: KeyUse + Drop>(
     rt: &HostRuntime,
     path: &'a str,
-    key_use: &U,
+    key_use: U,
 ) -> Result<U::Made, Problem<'a>>
-    ensures ran { (key : List ℕ) × IfOk result (U.gives key_use.now key) }
+    ensures ran { (key : List ℕ) × IfOk result (U.gives key_use key) }
 {
     let mut key = [0; 32];
     let made = run_with(rt, path, &mut key, key_use);
@@ -32,13 +32,13 @@ pub fn with_key<'a, U: KeyUse>(
     made
 }
 
-fn run_with<'a, U: KeyUse>(
+fn run_with<'a, U: KeyUse + Drop>(
     rt: &HostRuntime,
     path: &'a str,
     key: &mut [u8; 32],
-    key_use: &U,
+    key_use: U,
 ) -> Result<U::Made, Problem<'a>>
-    ensures { IfOk result (U.gives key_use.now key.new) }
+    ensures { IfOk result (U.gives key_use key.new) }
 {
     read_key(rt, path, key)?;
     Ok(key_use.run(rt, key))

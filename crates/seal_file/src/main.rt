@@ -54,7 +54,7 @@ Seals the file INPUT into a message, the file OUTPUT.
             data_keys,
             text_len,
         };
-        let sealed = with_key(rt, command.key, &asked)??;
+        let sealed = with_key(rt, command.key, asked)??;
         report(rt, sealed)
     }
 }
@@ -78,7 +78,7 @@ impl<'a> KeyUse for Asked<'a> {
     ghost gives = { λ _ _ _. Unit {0} };
 
     // Reads what else the command names, and seals.
-    fn run(&self, rt: &HostRuntime, key: &[u8; 32]) -> Result<Sealed, Problem<'a>> {
+    fn run(self, rt: &HostRuntime, key: &[u8; 32]) -> Result<Sealed, Problem<'a>> {
         let words = self.data_keys.as_slice();
         let ciphertexts = read_data_keys(rt, words)?;
         let pairs = pairs_of(rt, self.context.pairs())?;

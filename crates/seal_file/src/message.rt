@@ -64,6 +64,22 @@ pub fn seal_file<'a>(
     output.settle(rt, sealed)
 }
 
+// Header and tag, and how many bytes they have. A call of its own, or its room would stand on the stack below that of the frames.
+#[inline(never)]
+fn write_start<'a>(
+    command: SealCommand<'a>,
+    output: &mut Output<'a>,
+    key: &[u8; 32],
+    header: HeaderRequest,
+) -> Result<(Sealer, usize), Problem<'a>> {
+    let mut start = [0; START_ROOM];
+    // The key and the id have 32 bytes, names rise and there is a data key, so a header that is refused is too long.
+    let (sealer, len) = Sealer::begin(key, header, &mut start).map_err(|_| Problem::HeaderTooLong)?;
+    let begun = start.get(..len).ok_or(Problem::HeaderTooLong)?;
+    output.write_all(begun).writing(command.output)?;
+    Ok((sealer, len))
+}
+
 // Header and tag, and then the frames. The text that went by is wiped.
 fn write_message<'a>(
     rt: &HostRuntime,
@@ -73,11 +89,7 @@ fn write_message<'a>(
     key: &[u8; 32],
     header: HeaderRequest,
 ) -> Result<Sealed, Problem<'a>> {
-    let mut start = [0; START_ROOM];
-    // The key and the id have 32 bytes, names rise and there is a data key, so a header that is refused is too long.
-    let (sealer, len) = Sealer::begin(key, header, &mut start).map_err(|_| Problem::HeaderTooLong)?;
-    let begun = start.get(..len).ok_or(Problem::HeaderTooLong)?;
-    output.write_all(begun).writing(command.output)?;
+    let (sealer, len) = write_start(command, output, key, header)?;
     let text = Window::new(command.frame_length as usize + 1).ok_or(Problem::FrameLength)?;
     let mut frames = Frames {
         command,
